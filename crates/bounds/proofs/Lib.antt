@@ -1,0 +1,4 @@
+pub mod Sizes
+pub mod EndsLaws
+pub mod CentredLaws
+pub mod CurveLaws

@@ -1,0 +1,4 @@
+pub mod Kinds
+pub mod Ends
+pub mod Centred
+pub mod Curves

@@ -1,0 +1,6 @@
+// Bound kinds, which enclose sums of products of rounded numbers, and the curves between layers.
+pub mod centred;
+pub mod curve;
+pub mod ends;
+pub mod interval;
+pub mod kind;
