@@ -13,10 +13,7 @@ use Rattle.std.specs.Numbers.{minZ, maxZ}
 use Rattle.rounding.specs.Numbers.{In-range}
 use Rattle.bounds.specs.Curves.{Four-curves}
 use Rattle.bounds.specs.declared.curve.Curve.the-variants.{Identity, Relu, Clip, Step}
-use Rattle.rounding.proofs.Ring.{linear, mul-pos-le}
-
-pub one-mul-ℤ : (x : ℤ) → pos 1 *ℤ x ≡ x
-one-mul-ℤ x = omega (arith, ints)
+use Rattle.rounding.proofs.Ring.{linear, mul-pos-le, one-mul-ℤ}
 
 max-left : (x y : ℤ) → y ≤ℤ x → maxZ x y ≡ x
 max-left x y h = omega (arith, ints, clamps)

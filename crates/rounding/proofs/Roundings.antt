@@ -1,10 +1,10 @@
 -- Division rounded down and up: that it is what it says, and what it keeps of a scaled bound.
 -- Assumes nothing.
-use mathlib.Core.Path.{_≡_}
+use mathlib.Core.Path.{_≡_, ap, _∙_}
 use Prim.Native.Nat.{ℕ, _*_, _≤_}
 use native.Mathlib.Nat.{div-add-mod', mod-lt, mul-le-mul-left, div-le-self}
 use native.Mathlib.Omega.{arith}
-use lib.IntN.{ℤ, pos, negsuc, _+ℤ_, _-ℤ_, _*ℤ_, negℤ}
+use lib.IntN.{ℤ, pos, negsuc, _+ℤ_, _-ℤ_, _*ℤ_, negℤ, negℤ-negℤ}
 use lib.Pow.{pow-pos}
 use lib.Signed.{_≤ℤ_, _<ℤ_}
 use borrow.Author.Differences.{ints, lt-out}
@@ -56,3 +56,11 @@ cancel-le n p x y h = by-ltZ y x (λ k. absurd (apart n p x y h k)) (λ k. k)
 pub floor-sized : {n : ℕ} {z : ℤ} (d : ℕ) → Sized n z → Sized n (floor-over z d)
 floor-sized {z = pos a} d h = record { size = let k = div-le-self a d in omega (arith, h .size) }
 floor-sized {z = negsuc a} d h = record { size = let k = div-le-self a d in omega (arith, h .size) }
+
+-- over 1 there is nothing to round
+pub floor-one : (z : ℤ) → floor-over z 1 ≡ z
+floor-one (pos a) = ap pos (omega arith)
+floor-one (negsuc a) = ap negsuc (omega arith)
+
+pub ceiling-one : (z : ℤ) → ceiling-over z 1 ≡ z
+ceiling-one z = ap negℤ (floor-one (negℤ z)) ∙ negℤ-negℤ z

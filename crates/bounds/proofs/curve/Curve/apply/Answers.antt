@@ -7,7 +7,7 @@ use Rattle.std.specs.Numbers.{minZ, maxZ}
 use Rattle.std.proofs.shelf.Signed.{toZ-ofZ}
 use Rattle.bounds.specs.Curves.{curve-at}
 use Rattle.bounds.specs.declared.curve.Curve.the-variants.{Clip}
-use Rattle.bounds.proofs.CurveLaws.{one-mul-ℤ}
+use Rattle.rounding.proofs.Ring.{one-mul-ℤ}
 use Rattle.bounds.proofs.curve.Curve.apply.Needs as need
 
 -- over 1 a clip has its own numbers

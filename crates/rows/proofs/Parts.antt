@@ -1,0 +1,62 @@
+-- The parts of a row that is written keep their limits.
+-- Assumes nothing.
+use mathlib.Core.Path.{_≡_, refl, sym, subst, _∙_}
+use mathlib.Core.List.{List}
+use Prim.Native.Nat.{ℕ, _+_, _-_, _≤_, _<_}
+use native.Mathlib.Omega.{arith}
+use lib.ListN.{length, getD, take, drop, length-take, length-drop}
+use lib.Seq.{getD-take, getD-drop}
+use lib.IntN.{ℤ, pos, negℤ, natAbs}
+use borrow.Author.Differences.{ints}
+use Rattle.std.proofs.shelf.Ways.{tells}
+use Rattle.rounding.specs.Numbers.{Between, In-range, largest}
+use Rattle.rows.specs.Sums.{Weight}
+use Rattle.rows.specs.Numbers.{columns-of, limits, Written, Fits-at, bits-of, weight-distance-of, value-distance-of, bias-of, weights-of, values-of}
+
+weight-limits : (n i : ℕ) → i < n → limits n (4 + i) ≡ (negℤ (pos 32768), pos 32767)
+weight-limits n i h = grind (arith, tells)
+
+value-limits : (n i : ℕ) → n ≤ i → limits n (4 + i) ≡ (negℤ largest, largest)
+value-limits n i h = grind (arith, tells)
+
+module _ (ns : List ℤ) (written : Written ns) where
+  at : (i : ℕ) → i < length ns → Fits-at ns i
+  at = written .1
+
+  pub long : 6 ≤ length ns
+  long = let c = written .0 in omega arith
+
+  pub bits-fit : bits-of ns ≤ 16
+  bits-fit = let h = at 0 (omega (arith, long)) in omega (arith, ints)
+
+  pub weight-distance-fits : weight-distance-of ns ≤ 32767
+  weight-distance-fits = let h = at 1 (omega (arith, long)) in omega (arith, ints)
+
+  pub value-distance-fits : value-distance-of ns ≤ 65535
+  value-distance-fits = let h = at 2 (omega (arith, long)) in omega (arith, ints)
+
+  pub bias-fits : In-range (bias-of ns)
+  bias-fits = at 3 (omega (arith, long))
+
+  pub weights-length : length (weights-of ns) ≡ columns-of (length ns)
+  weights-length = let c = written .0 in simp (length-take, length-drop) (omega arith)
+
+  pub values-length : length (values-of ns) ≡ columns-of (length ns)
+  values-length = let c = written .0 in simp length-drop (omega arith)
+
+  pub weights-fit : (i : ℕ) → i < length (weights-of ns) → Weight (getD (weights-of ns) i (pos 0))
+  weights-fit i h =
+      let c = written .0 in
+      let few : i < columns-of (length ns) = omega (arith, weights-length) in
+      let P : ℤ × ℤ → Type 0 = λ t. Between (t .0) (t .1) (getD ns (4 + i) (pos 0)) in
+      rw (getD-take (columns-of (length ns)) (drop 4 ns) i (pos 0) few, getD-drop 4 ns i (pos 0))
+      (subst P (weight-limits (columns-of (length ns)) i few) (at (4 + i) (omega arith)))
+
+  pub values-fit : (i : ℕ) → i < length (values-of ns) → In-range (getD (values-of ns) i (pos 0))
+  values-fit i h =
+      let n = columns-of (length ns) in
+      let c = written .0 in
+      let few : i < n = omega (arith, values-length) in
+      let P : ℤ × ℤ → Type 0 = λ t. Between (t .0) (t .1) (getD ns (4 + (n + i)) (pos 0)) in
+      let moved : 4 + n + i ≡ 4 + (n + i) = omega arith in
+      rw (getD-drop (4 + n) ns i (pos 0), moved) (subst P (value-limits n (n + i) (omega arith)) (at (4 + (n + i)) (omega arith)))

@@ -1,0 +1,96 @@
+use borrow.Author.Needs.{needs}
+use mathlib.Core.Path.{_≡_, refl, ap, ap₂, _∙_}
+use Prim.Native.Nat.{_≤_, _<_}
+use native.Mathlib.Omega.{arith}
+use lib.IntN.{pos, _+ℤ_, _-ℤ_}
+use lib.ListN.{length, getD, drop-of-length-le}
+use mir.Syntax.{w64}
+use mir.Val.{SFits}
+use Rattle.std.proofs.shelf.Signed.{toZ-ofZ, ints}
+use Rattle.rounding.specs.Numbers.{In-range}
+use Rattle.bounds.specs.Kinds.{Weight-ends, Activation-ends, begun, added, closes}
+use Rattle.bounds.proofs.EndsLaws.{interval}
+use Rattle.rows.specs.Sums.{Weight}
+use Rattle.rows.proofs.Columns.{column}
+use Rattle.rows.proofs.row.Row.bounds.Needs as need
+
+pub loop-j-holds : need.loop-j-holds
+loop-j-holds g c = rw (c .start-sum .ensures) (begun, refl)
+
+pub make-weight-requires : need.make-weight-requires
+make-weight-requires g c κs =
+    let w : Weight (getD (c .args .self .now .weights .now) (c .loop-j .j) (pos 0)) = c .args .self .now .«weights_fit» (c .loop-j .j) (omega arith) in
+    omega (arith, ints)
+
+pub sub-x : need.sub-x
+sub-x g c =
+    let x : In-range (getD (c .args .self .now .values .now) (c .loop-j .j) (pos 0)) = c .args .self .now .«values_fit» (c .loop-j .j) (omega arith) in
+    omega (arith, ints)
+
+pub add-x : need.add-x
+add-x g c =
+    let x : In-range (getD (c .args .self .now .values .now) (c .loop-j .j) (pos 0)) = c .args .self .now .«values_fit» (c .loop-j .j) (omega arith) in
+    omega (arith, ints)
+
+pub make-value-requires : need.make-value-requires
+make-value-requires g c κs =
+    let x : In-range (getD (c .args .self .now .values .now) (c .loop-j .j) (pos 0)) = c .args .self .now .«values_fit» (c .loop-j .j) (omega arith) in
+    omega (arith, ints)
+
+pub add-sum-requires : need.add-sum-requires
+add-sum-requires g c κs =
+    let w : Weight (getD (c .args .self .now .weights .now) (c .loop-j .j) (pos 0)) = c .args .self .now .«weights_fit» (c .loop-j .j) (omega arith) in
+    let x : In-range (getD (c .args .self .now .values .now) (c .loop-j .j) (pos 0)) = c .args .self .now .«values_fit» (c .loop-j .j) (omega arith) in
+    record {
+      running = (c .loop-j .j, omega arith, c .loop-j .inv .0);
+      weight = (_, _, omega (arith, ints), c .make-weight .ensures);
+      activation = (_, _, omega (arith, ints), c .make-value .ensures);
+    }
+
+pub loop-j-again : need.loop-j-again
+loop-j-again g c =
+    let k = g .K·BoundKind .means in
+    let j = c .loop-j .j in
+    let ws = c .args .self .now .weights .now in
+    let xs = c .args .self .now .values .now in
+    let e = c .from-e .result in
+    let d = c .from-d .result in
+    let w = getD ws j (pos 0) in
+    let x = getD xs j (pos 0) in
+    let below : j < length ws = omega arith in
+    let level : j < length xs = omega arith in
+    let hw : Weight w = c .args .self .now .«weights_fit» j below in
+    let hx : In-range x = c .args .self .now .«values_fit» j level in
+    let fw : SFits w64 w = search needs in
+    let fx : SFits w64 x = search needs in
+    let fe : SFits w64 e = search needs in
+    let fd : SFits w64 d = search needs in
+    let f₁ : SFits w64 (w -ℤ e) = omega (arith, ints) in
+    let f₂ : SFits w64 (w +ℤ e) = omega (arith, ints) in
+    let f₃ : SFits w64 (x -ℤ d) = omega (arith, ints) in
+    let f₄ : SFits w64 (x +ℤ d) = omega (arith, ints) in
+    let eu = simp toZ-ofZ at (c .make-weight .ensures) in
+    let ev = simp toZ-ofZ at (c .make-value .ensures) in
+    let me : e ≡ pos (c .args .self .now .«weight_distance») = c .from-e .ensures in
+    let md : d ≡ pos (c .args .self .now .«value_distance») = c .from-d .ensures in
+    let s = g .K·BoundKind .sum (c .loop-j .sum) in
+    let t = g .K·BoundKind .sum (c .add-sum .result) in
+    let step : t ≡ k .adds s (k .makes (w -ℤ pos (c .args .self .now .«weight_distance»)) (w +ℤ pos (c .args .self .now .«weight_distance»))) (k .makes (x -ℤ pos (c .args .self .now .«value_distance»)) (x +ℤ pos (c .args .self .now .«value_distance»))) = cc in
+    let hu : Weight-ends (w -ℤ pos (c .args .self .now .«weight_distance»)) (w +ℤ pos (c .args .self .now .«weight_distance»)) = omega (arith, ints) in
+    let hv : Activation-ends (x -ℤ pos (c .args .self .now .«value_distance»)) (x +ℤ pos (c .args .self .now .«value_distance»)) = omega (arith, ints) in (
+      rw step (added (c .loop-j .inv .0) (omega arith) _ _ hu _ _ hv),
+      column k _ _ s t ws xs j below level step ∙ c .loop-j .inv .1,
+    )
+
+pub returns : need.returns
+returns g c =
+    let k = g .K·BoundKind .means in
+    let ws = c .args .self .now .weights .now in
+    let end : length ws ≤ c .loop-j .j = omega arith in
+    let whole = simp (drop-of-length-le ws end) at (c .loop-j .inv .1) in
+    let b : SFits w64 (c .args .self .now .bias) = search needs in
+    let low : SFits w64 (c .close-low .result .0) = search needs in
+    let high : SFits w64 (c .close-low .result .1) = search needs in
+    let F = c .args .self .now .bits in
+    let closed = c .close-low .ensures ∙ ap₂ (λ s z. closes k s z F) whole (toZ-ofZ w64 _ b) in
+    ap₂ interval (toZ-ofZ w64 _ low ∙ ap (λ r. r .0) closed) (toZ-ofZ w64 _ high ∙ ap (λ r. r .1) closed)

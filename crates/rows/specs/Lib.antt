@@ -1,0 +1,4 @@
+pub mod Sums
+pub mod Copies
+pub mod Claims
+pub mod Numbers
