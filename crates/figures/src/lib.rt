@@ -1,0 +1,53 @@
+// The worked figures of the specification, by the definitions and by the code.
+ghost use lib.IntN.{pos, negsuc};
+ghost use mathlib.Core.Path.{_≡_};
+ghost use Rattle.bounds.specs.Kinds.{Weight-ends, Activation-ends};
+ghost use Rattle.figures.specs.Figures.{Figures, product-ends};
+use bounds::centred::Centred;
+use bounds::centred::CentredKind;
+use bounds::curve::Curve;
+use bounds::ends::Ends;
+use bounds::ends::EndsKind;
+use bounds::kind::BoundKind;
+use rounding::outward;
+
+// What the code makes of the figures.
+#[derive(Clone, Copy)]
+pub struct WorkedFigures {
+    pub closed: (i64, i64),
+    pub in_ends: (i64, i64),
+    pub in_centred: (i64, i64),
+    pub around_zero: (i64, i64),
+    pub clipped: i64,
+    pub stepped: i64,
+}
+
+// The ends of a weight from `a` to `b` times an activation from `c` to `d`.
+fn product<K: BoundKind>(a: i64, b: i64, c: i64, d: i64) -> (i64, i64)
+    requires weight { ⌜ Weight-ends a b ⌝ }
+    requires activation { ⌜ Activation-ends c d ⌝ }
+    ensures { λ r. ⌜ r ≡ product-ends (K·BoundKind .means) a b c d ⌝ }
+{
+    let sum = K::add(K::start(), K::make(a, b), K::make(c, d));
+    K::close(sum, 0, 0)
+}
+
+// The figures, worked by the code.
+pub fn work() -> WorkedFigures
+    ensures figures { λ _. ⌜ Figures ⌝ }
+    ensures closed { λ r. ⌜ r .closed ≡ (negsuc 1, negsuc 0) ⌝ }
+    ensures in_ends { λ r. ⌜ r .«in_ends» ≡ (negsuc 11, pos 4) ⌝ }
+    ensures in_centred { λ r. ⌜ r .«in_centred» ≡ (negsuc 11, pos 6) ⌝ }
+    ensures around_zero { λ r. ⌜ r .«around_zero» ≡ (negsuc 2, pos 3) ⌝ }
+    ensures clipped { λ r. ⌜ r .clipped ≡ pos 5 ⌝ }
+    ensures stepped { λ r. ⌜ r .stepped ≡ pos 1 ⌝ }
+{
+    WorkedFigures {
+        closed: outward(-3, -3, 0, 1),
+        in_ends: product::<EndsKind>(2, 4, -3, 1),
+        in_centred: product::<CentredKind>(2, 4, -3, 1),
+        around_zero: product::<EndsKind>(-1, 1, 2, 3),
+        clipped: Curve::Clip(-2, 5).apply(6),
+        stepped: Curve::Step(-1, 1).apply(0),
+    }
+}
