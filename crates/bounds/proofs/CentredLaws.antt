@@ -31,7 +31,7 @@ around-middle a b =
     let h = f .not-above in
     omega (arith, ints)
 
-middle-between : (a b : ℤ) → a ≤ℤ b → (a ≤ℤ middle a b) × (middle a b ≤ℤ b)
+pub middle-between : (a b : ℤ) → a ≤ℤ b → (a ≤ℤ middle a b) × (middle a b ≤ℤ b)
 middle-between a b h = let f = around-middle a b in omega (arith, ints)
 
 middle-low : (a b : ℤ) → (middle a b -ℤ (b -ℤ middle a b)) ≤ℤ a

@@ -12,7 +12,7 @@ use Rattle.rounding.proofs.Ring.{mul-pos-le, mul-swap-ℤ, mul-add-ℤ, corners
 use Rattle.rounding.proofs.Machine.{sized-mul, sized-add, sized-more}
 use Rattle.bounds.specs.Kinds.{Kind-laws, Running, begun, added}
 use Rattle.bounds.specs.Ends.{least-of, greatest-of, products, ends-meanings}
-use Rattle.bounds.specs.declared.interval.Interval.{Interval}
+use Rattle.rounding.specs.declared.interval.Interval.{Interval}
 use Rattle.bounds.proofs.Sizes.{weight-sized, activation-sized, product-size, sums-sized}
 
 abbrev pub interval : ℤ → ℤ → Interval
@@ -20,27 +20,21 @@ interval a b = record { low = a; high = b }
 
 -- ---- the least and the greatest of four
 least-below : (x y z w : ℤ) → (least-of x y z w ≤ℤ x) × (least-of x y z w ≤ℤ y) × (least-of x y z w ≤ℤ z) × (least-of x y z w ≤ℤ w)
-unfolding least-of
 least-below x y z w = omega (arith, ints, clamps)
 
 greatest-above : (x y z w : ℤ) → (x ≤ℤ greatest-of x y z w) × (y ≤ℤ greatest-of x y z w) × (z ≤ℤ greatest-of x y z w) × (w ≤ℤ greatest-of x y z w)
-unfolding greatest-of
 greatest-above x y z w = omega (arith, ints, clamps)
 
 least-point : (z : ℤ) → least-of z z z z ≡ z
-unfolding least-of
 least-point z = omega (arith, ints, clamps)
 
 greatest-point : (z : ℤ) → greatest-of z z z z ≡ z
-unfolding greatest-of
 greatest-point z = omega (arith, ints, clamps)
 
-least-sized : {n : ℕ} {x y z w : ℤ} → Sized n x → Sized n y → Sized n z → Sized n w → Sized n (least-of x y z w)
-unfolding least-of
+pub least-sized : {n : ℕ} {x y z w : ℤ} → Sized n x → Sized n y → Sized n z → Sized n w → Sized n (least-of x y z w)
 least-sized {n} {x} {y} {z} {w} h₁ h₂ h₃ h₄ = record { size = omega (arith, ints, clamps) }
 
-greatest-sized : {n : ℕ} {x y z w : ℤ} → Sized n x → Sized n y → Sized n z → Sized n w → Sized n (greatest-of x y z w)
-unfolding greatest-of
+pub greatest-sized : {n : ℕ} {x y z w : ℤ} → Sized n x → Sized n y → Sized n z → Sized n w → Sized n (greatest-of x y z w)
 greatest-sized {n} {x} {y} {z} {w} h₁ h₂ h₃ h₄ = record { size = omega (arith, ints, clamps) }
 
 -- ---- products of two numbers, each within a scaled interval

@@ -2,12 +2,12 @@
 use lib.IntN.{ℤ, pos, _+ℤ_, _*ℤ_}
 use Rattle.std.specs.Numbers.{minZ, maxZ}
 use Rattle.bounds.specs.Kinds.{Meanings}
-use Rattle.bounds.specs.declared.interval.Interval.{Interval}
+use Rattle.rounding.specs.declared.interval.Interval.{Interval}
 
-unfoldable pub least-of : ℤ → ℤ → ℤ → ℤ → ℤ
+abbrev pub least-of : ℤ → ℤ → ℤ → ℤ → ℤ
 least-of x y z w = minZ (minZ x y) (minZ z w)
 
-unfoldable pub greatest-of : ℤ → ℤ → ℤ → ℤ → ℤ
+abbrev pub greatest-of : ℤ → ℤ → ℤ → ℤ → ℤ
 greatest-of x y z w = maxZ (maxZ x y) (maxZ z w)
 
 -- the least and the greatest of the four products of an end of u and an end of v

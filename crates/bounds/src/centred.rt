@@ -1,8 +1,12 @@
+ghost use Prim.Native.Nat.{_^_};
+ghost use lib.IntN.{_+ℤ_, _-ℤ_, _*ℤ_};
 ghost use mathlib.Core.Path.{_≡_};
-ghost use Rattle.bounds.specs.Centred.{centred-meanings, product-radius};
-ghost use Rattle.rounding.specs.Numbers.{Sized};
+ghost use Rattle.bounds.specs.Centred.{centred-meanings, abs, middle};
+ghost use Rattle.bounds.specs.Kinds.{Activation-ends};
+ghost use Rattle.rounding.specs.Numbers.{Between, Sized};
 use crate::kind::BoundKind;
 use rounding::floor_over;
+use rounding::interval::Interval;
 use rounding::outward;
 
 // The whole numbers within `radius` of `centre`.
@@ -15,13 +19,81 @@ pub struct Ball {
 // Bound kind 1: elements and sums are kept as a centre and a radius.
 pub struct Centred;
 
-// The radius of the product of `u` and `v` about the product of their centres.
-fn radius(u: Ball, v: Ball) -> i64
+// The middle of `low` and `high`, rounded down.
+fn midpoint(low: i64, high: i64) -> i64
+    requires { ⌜ Activation-ends low high ⌝ }
+    ensures value { λ r. ⌜ r ≡ middle low high ⌝ }
+    ensures between { λ r. ⌜ Between low high r ⌝ }
+{
+    floor_over(low + high, 1)
+}
+
+// The products that make up the product of two balls.
+#[derive(Clone, Copy)]
+struct Terms {
+    // the centres
+    centres: i64,
+    // the size of the first centre and the second radius
+    first: i64,
+    // the size of the second centre and the first radius
+    second: i64,
+    // the radii
+    radii: i64,
+}
+
+// The products of the parts of a weight and of an activation.
+fn products(u: Ball, v: Ball) -> Terms
     requires weight { ⌜ Sized 65535 (u .centre) × Sized 131070 (u .radius) ⌝ }
     requires activation { ⌜ Sized 1073807358 (v .centre) × Sized 2147614716 (v .radius) ⌝ }
-    ensures { λ r. ⌜ r ≡ product-radius u v ⌝ }
+    ensures centres { λ r. ⌜ r .centres ≡ u .centre *ℤ v .centre ⌝ }
+    ensures first { λ r. ⌜ r .first ≡ abs (u .centre) *ℤ v .radius ⌝ }
+    ensures second { λ r. ⌜ r .second ≡ abs (v .centre) *ℤ u .radius ⌝ }
+    ensures radii { λ r. ⌜ r .radii ≡ u .radius *ℤ v .radius ⌝ }
+    ensures sizes { λ r. ⌜ Sized (2 ^ 58) (r .centres) × Sized (2 ^ 58) (r .first) × Sized (2 ^ 58) (r .second) × Sized (2 ^ 58) (r .radii) ⌝ }
 {
-    u.centre.abs() * v.radius + v.centre.abs() * u.radius + u.radius * v.radius
+    Terms {
+        centres: u.centre * v.centre,
+        first: u.centre.abs() * v.radius,
+        second: v.centre.abs() * u.radius,
+        radii: u.radius * v.radius,
+    }
+}
+
+// The ball about the product of the centres that takes in all of the product.
+fn joined(t: Terms) -> Ball
+    requires { ⌜ Sized (2 ^ 58) (t .first) × Sized (2 ^ 58) (t .second) × Sized (2 ^ 58) (t .radii) ⌝ }
+    ensures centre { λ r. ⌜ r .centre ≡ t .centres ⌝ }
+    ensures radius { λ r. ⌜ r .radius ≡ t .first +ℤ t .second +ℤ t .radii ⌝ }
+{
+    Ball {
+        centre: t.centres,
+        radius: t.first + t.second + t.radii,
+    }
+}
+
+// The sum of two balls.
+fn sum(s: Ball, p: Ball) -> Ball
+    requires s { ⌜ Sized (2 ^ 60) (s .centre) × Sized (2 ^ 60) (s .radius) ⌝ }
+    requires p { ⌜ Sized (2 ^ 60) (p .centre) × Sized (2 ^ 60) (p .radius) ⌝ }
+    ensures centre { λ r. ⌜ r .centre ≡ s .centre +ℤ p .centre ⌝ }
+    ensures radius { λ r. ⌜ r .radius ≡ s .radius +ℤ p .radius ⌝ }
+{
+    Ball {
+        centre: s.centre + p.centre,
+        radius: s.radius + p.radius,
+    }
+}
+
+// The ends of a ball.
+fn ends(b: Ball) -> Interval
+    requires { ⌜ Sized (2 ^ 60) (b .centre) × Sized (2 ^ 60) (b .radius) ⌝ }
+    ensures low { λ r. ⌜ r .low ≡ b .centre -ℤ b .radius ⌝ }
+    ensures high { λ r. ⌜ r .high ≡ b .centre +ℤ b .radius ⌝ }
+{
+    Interval {
+        low: b.centre - b.radius,
+        high: b.centre + b.radius,
+    }
 }
 
 pub impl BoundKind for Centred as CentredKind {
@@ -42,7 +114,7 @@ pub impl BoundKind for Centred as CentredKind {
     }
 
     fn make(low: i64, high: i64) -> Ball {
-        let centre = floor_over(low + high, 1);
+        let centre = midpoint(low, high);
         Ball {
             centre,
             radius: high - centre,
@@ -57,18 +129,10 @@ pub impl BoundKind for Centred as CentredKind {
     }
 
     fn add(so_far: Ball, weight: Ball, activation: Ball) -> Ball {
-        Ball {
-            centre: so_far.centre + weight.centre * activation.centre,
-            radius: so_far.radius + radius(weight, activation),
-        }
+        sum(so_far, joined(products(weight, activation)))
     }
 
     fn close(whole: Ball, bias: i64, bits: u32) -> (i64, i64) {
-        outward(
-            whole.centre - whole.radius,
-            whole.centre + whole.radius,
-            bias,
-            bits,
-        )
+        outward(ends(whole), bias, bits)
     }
 }

@@ -59,3 +59,27 @@ impl Curve {
         }
     }
 }
+
+#[cfg(test)]
+mod tests {
+    use super::*;
+    use std::test::*;
+
+    #[test]
+    fn codes_name_curves() -> Result<(), Fail> {
+        check(Curve::new(0, 0, 0).is_some())?;
+        check(Curve::new(1, 0, 1).is_none())?;
+        check(Curve::new(2, 5, -2).is_none())?;
+        check(Curve::new(3, -1_073_741_823, 1_073_741_823).is_some())?;
+        check(Curve::new(3, -1_073_741_824, 0).is_none())?;
+        check(Curve::new(4, 0, 0).is_none())
+    }
+
+    #[test]
+    fn curves_apply() -> Result<(), Fail> {
+        check_eq(Curve::Relu.apply(-7), 0)?;
+        check_eq(Curve::Clip(-2, 5).apply(6), 5)?;
+        check_eq(Curve::Step(-1, 1).apply(-1), -1)?;
+        check_eq(Curve::Step(-1, 1).apply(0), 1)
+    }
+}

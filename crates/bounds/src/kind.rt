@@ -1,6 +1,6 @@
 ghost use Prim.Native.Nat.{ℕ, _≤_, _<_};
 ghost use mathlib.Core.Path.{_≡_};
-ghost use Rattle.rounding.specs.Numbers.{In-range};
+ghost use Rattle.rounding.specs.Numbers.{In-range, Fraction-bits};
 ghost use Rattle.bounds.specs.Kinds.{Meanings, Kind-laws, Running, Activation-ends, Weight-element, Activation-element, closes};
 
 // A way to keep bounds: elements that enclose rounded numbers, and running sums of their products.
@@ -46,6 +46,6 @@ pub trait BoundKind {
     fn close(whole: Self::Sum, bias: i64, bits: u32) -> (i64, i64)
         requires running { ⌜ ((n : ℕ) × (n ≤ 64) × Running means n (sum whole)) ⌝ }
         requires bias { ⌜ In-range bias ⌝ }
-        requires bits { ⌜ bits ≤ 16 ⌝ }
+        requires bits { ⌜ Fraction-bits bits ⌝ }
         ensures { λ r. ⌜ r ≡ closes means (sum whole) bias bits ⌝ };
 }

@@ -2,5 +2,4 @@
 pub mod centred;
 pub mod curve;
 pub mod ends;
-pub mod interval;
 pub mod kind;

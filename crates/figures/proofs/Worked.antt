@@ -1,9 +1,7 @@
 -- The worked figures, by computing.
 -- Assumes nothing.
 use mathlib.Core.Path.{refl}
-use Rattle.bounds.specs.Ends.{least-of, greatest-of}
 use Rattle.figures.specs.Figures.{Figures}
 
 pub worked-figures : Figures
-unfolding least-of greatest-of
 worked-figures = record { closed = refl; in-ends = refl; in-centred = refl; around-zero = refl; clipped = refl; stepped = refl }

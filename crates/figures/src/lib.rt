@@ -3,12 +3,11 @@ ghost use lib.IntN.{pos, negsuc};
 ghost use mathlib.Core.Path.{_≡_};
 ghost use Rattle.bounds.specs.Kinds.{Weight-ends, Activation-ends};
 ghost use Rattle.figures.specs.Figures.{Figures, product-ends};
-use bounds::centred::Centred;
 use bounds::centred::CentredKind;
 use bounds::curve::Curve;
-use bounds::ends::Ends;
 use bounds::ends::EndsKind;
 use bounds::kind::BoundKind;
+use rounding::interval::Interval;
 use rounding::outward;
 
 // What the code makes of the figures.
@@ -32,9 +31,8 @@ fn product<K: BoundKind>(a: i64, b: i64, c: i64, d: i64) -> (i64, i64)
     K::close(sum, 0, 0)
 }
 
-// The figures, worked by the code.
-pub fn work() -> WorkedFigures
-    ensures figures { λ _. ⌜ Figures ⌝ }
+// Works the figures.
+fn work() -> WorkedFigures
     ensures closed { λ r. ⌜ r .closed ≡ (negsuc 1, negsuc 0) ⌝ }
     ensures in_ends { λ r. ⌜ r .«in_ends» ≡ (negsuc 11, pos 4) ⌝ }
     ensures in_centred { λ r. ⌜ r .«in_centred» ≡ (negsuc 11, pos 6) ⌝ }
@@ -43,11 +41,40 @@ pub fn work() -> WorkedFigures
     ensures stepped { λ r. ⌜ r .stepped ≡ pos 1 ⌝ }
 {
     WorkedFigures {
-        closed: outward(-3, -3, 0, 1),
+        closed: outward(Interval { low: -3, high: -3 }, 0, 1),
         in_ends: product::<EndsKind>(2, 4, -3, 1),
         in_centred: product::<CentredKind>(2, 4, -3, 1),
         around_zero: product::<EndsKind>(-1, 1, 2, 3),
         clipped: Curve::Clip(-2, 5).apply(6),
         stepped: Curve::Step(-1, 1).apply(0),
+    }
+}
+
+// The figures, which hold of the definitions, as the code works them.
+pub fn figures() -> WorkedFigures
+    ensures definitions { λ _. ⌜ Figures ⌝ }
+    ensures closed { λ r. ⌜ r .closed ≡ (negsuc 1, negsuc 0) ⌝ }
+    ensures in_ends { λ r. ⌜ r .«in_ends» ≡ (negsuc 11, pos 4) ⌝ }
+    ensures in_centred { λ r. ⌜ r .«in_centred» ≡ (negsuc 11, pos 6) ⌝ }
+    ensures around_zero { λ r. ⌜ r .«around_zero» ≡ (negsuc 2, pos 3) ⌝ }
+    ensures clipped { λ r. ⌜ r .clipped ≡ pos 5 ⌝ }
+    ensures stepped { λ r. ⌜ r .stepped ≡ pos 1 ⌝ }
+{
+    work()
+}
+
+#[cfg(test)]
+mod tests {
+    use super::*;
+    use std::test::*;
+
+    #[test]
+    fn the_code_gives_the_figures() -> Result<(), Fail> {
+        let f = figures();
+        check_eq(f.closed, (-2, -1))?;
+        check_eq(f.in_ends, (-12, 4))?;
+        check_eq(f.in_centred, (-12, 6))?;
+        check_eq(f.around_zero, (-3, 3))?;
+        check_eq((f.clipped, f.stepped), (5, 1))
     }
 }

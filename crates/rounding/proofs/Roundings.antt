@@ -9,11 +9,11 @@ use lib.Pow.{pow-pos}
 use lib.Signed.{_≤ℤ_, _<ℤ_}
 use borrow.Author.Differences.{ints, lt-out}
 use Rattle.std.proofs.shelf.Signed.{by-ltZ}
-use Rattle.rounding.specs.Numbers.{Rounded-down, Rounded-up, Sized, one-over, floor-over, ceiling-over}
+use Rattle.rounding.specs.Numbers.{Rounded-down, Rounded-up, Sized, per-unit, floor-over, ceiling-over}
 use Rattle.rounding.proofs.Ring.{linear, ≤ℤ-trans, mul-pos-le, mul-assoc-ℤ, mul-neg-ℤ, mul-add-ℤ, mul-sub-ℤ}
 
-pub one-or-more : (F : ℕ) → 1 ≤ one-over F
-one-or-more F = pow-pos F
+pub per-unit-positive : (F : ℕ) → 1 ≤ per-unit F
+per-unit-positive F = pow-pos F
 
 within-one : (z : ℤ) (d : ℕ) → 1 ≤ d → ((pos d *ℤ floor-over z d) ≤ℤ z) × (z <ℤ (pos d *ℤ floor-over z d +ℤ pos d))
 within-one (pos a) d p = let s = div-add-mod' a d in let l = mod-lt a p in omega (arith, ints)

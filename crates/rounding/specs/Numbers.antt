@@ -23,13 +23,17 @@ Near d y x = Between (y -ℤ d) (y +ℤ d) x
 abbrev pub Over : ℕ → ℤ → ℤ → ℤ → Type 0
 Over d low high x = Between (pos d *ℤ low) (pos d *ℤ high) x
 
+-- there are 0 to 16 fraction bits
+abbrev pub Fraction-bits : ℕ → Type 0
+Fraction-bits F = F ≤ 16
+
 -- z is at most n away from 0
 pub record Sized (n : ℕ) (z : ℤ) : Type 0 where
   pub size : natAbs z ≤ n
 
--- the whole number 1 in units of 2^-F
-abbrev pub one-over : ℕ → ℕ
-one-over F = 2 ^ F
+-- with F fraction bits a unit is 2^-F, and so many of the units of a product of two make one unit
+abbrev pub per-unit : ℕ → ℕ
+per-unit F = 2 ^ F
 
 -- r is x / d rounded down: the greatest whole number that is not above it
 pub record Rounded-down (x : ℤ) (d : ℕ) (r : ℤ) : Type 0 where
@@ -48,7 +52,7 @@ floor-over x d = shrZ x d
 abbrev pub ceiling-over : ℤ → ℕ → ℤ
 ceiling-over x d = negℤ (floor-over (negℤ x) d)
 
--- the ends of a running sum, in units of 2^-F of a unit, with the bias b, in units: the low rounded down, the high rounded up
+-- the ends of a running sum of products with the bias b, in whole units: the low rounded down, the high rounded up
 abbrev pub rounded-outward : ℤ → ℤ → ℤ → ℕ → ℤ × ℤ
 rounded-outward low high b F =
-    (floor-over (low +ℤ (b *ℤ pos (one-over F))) (one-over F), ceiling-over (high +ℤ (b *ℤ pos (one-over F))) (one-over F))
+    (floor-over (low +ℤ (b *ℤ pos (per-unit F))) (per-unit F), ceiling-over (high +ℤ (b *ℤ pos (per-unit F))) (per-unit F))

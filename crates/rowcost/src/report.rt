@@ -11,7 +11,7 @@ use crate::input::LineFault;
 use crate::input::LineFaultDisplay;
 use bounds::centred::CentredKind;
 use bounds::ends::EndsKind;
-use bounds::interval::Interval;
+use rounding::interval::Interval;
 use rows::fault::RowFault;
 use rows::reading::row_bounds;
 use std::alloc::AllocError;

@@ -5,7 +5,7 @@ use mathlib.Core.List.{List, [], _∷_, map}
 use Prim.Native.Nat.{ℕ, _*_}
 use native.Mathlib.Omega.{arith}
 use lib.IntN.{ℤ, pos, _+ℤ_, _*ℤ_}
-use Rattle.rounding.specs.Numbers.{Near, one-over}
+use Rattle.rounding.specs.Numbers.{Near, per-unit}
 use Rattle.rounding.proofs.Ring.{linear, mul-add-ℤ, mul-swap-ℤ}
 use Rattle.rows.specs.Sums.{spread}
 use Rattle.rows.specs.Copies.{none, more, dot, All-near, Held}
@@ -37,4 +37,4 @@ module _ (q : ℕ) where
       ap₂ _+ℤ_ (mul-swap-ℤ (pos q) w (pos q) x) (dot-scaled ws xs) ∙ sym (mul-add-ℤ (pos (q * q)) (w *ℤ x) (dot ws xs))
 
 pub row-copied : Row-copied
-row-copied q F e-w e-x ws xs b = (scaled-held q e-x xs, record { weights = scaled q ws; near = scaled-near q e-w ws; numerator = scaled-bias (q * q) (one-over F) (dot ws xs) b ∙ ap (λ x. x +ℤ pos (q * q * one-over F) *ℤ b) (sym (dot-scaled q ws xs)) })
+row-copied q F e-w e-x ws xs b = (scaled-held q e-x xs, record { weights = scaled q ws; near = scaled-near q e-w ws; numerator = scaled-bias (q * q) (per-unit F) (dot ws xs) b ∙ ap (λ x. x +ℤ pos (q * q * per-unit F) *ℤ b) (sym (dot-scaled q ws xs)) })

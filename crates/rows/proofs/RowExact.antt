@@ -10,7 +10,7 @@ use borrow.Author.Differences.{ints}
 use Rattle.std.specs.shelf.Lists.{All}
 use Rattle.rounding.proofs.Roundings.{floor-one, ceiling-one}
 use Rattle.bounds.specs.Kinds.{Kind, Running, begun, added, Weight-ends, Activation-ends}
-use Rattle.bounds.specs.declared.interval.Interval.{Interval}
+use Rattle.rounding.specs.declared.interval.Interval.{Interval}
 use Rattle.bounds.proofs.EndsLaws.{interval}
 use Rattle.rows.specs.Sums.{Weight, Activations, spread, summed}
 use Rattle.rows.specs.Copies.{Pairs, none, more, dot}

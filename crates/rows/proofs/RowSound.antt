@@ -9,11 +9,11 @@ use lib.IntN.{ℤ, pos, _+ℤ_, _-ℤ_, _*ℤ_, *ℤ-comm, +ℤ-assoc, +ℤ-idl,
 use lib.Signed.{_≤ℤ_, ≤ℤ-refl}
 use borrow.Author.Differences.{ints}
 use Rattle.std.specs.shelf.Lists.{All}
-use Rattle.rounding.specs.Numbers.{Near, Over, one-over, floor-over, ceiling-over}
+use Rattle.rounding.specs.Numbers.{Near, Over, per-unit, floor-over, ceiling-over}
 use Rattle.rounding.proofs.Ring.{linear, ≤ℤ-trans, mul-pos-le, mul-add-ℤ, mul-sub-ℤ, mul-assoc-ℤ, one-mul-ℤ}
-use Rattle.rounding.proofs.Roundings.{one-or-more, floor-is, ceiling-is, floor-keeps, ceiling-keeps, cancel-le}
+use Rattle.rounding.proofs.Roundings.{per-unit-positive, floor-is, ceiling-is, floor-keeps, ceiling-keeps, cancel-le}
 use Rattle.bounds.specs.Kinds.{Kind, Running, begun, added, Weight-ends, Activation-ends}
-use Rattle.bounds.specs.declared.interval.Interval.{Interval}
+use Rattle.rounding.specs.declared.interval.Interval.{Interval}
 use Rattle.bounds.proofs.Sizes.{weight-is-activation}
 use Rattle.rows.specs.Sums.{Weight, Activations, Row-limits, summed, row-bounds}
 use Rattle.rows.specs.Copies.{none, more, dot, All-near, Held, Row-copy}
@@ -23,8 +23,8 @@ use Rattle.rows.specs.Claims.{Row-sound}
 pub over-one : (low high x : ℤ) → low ≤ℤ x → x ≤ℤ high → Over 1 low high x
 over-one low high x h k = rw (one-mul-ℤ low, one-mul-ℤ high) (h, k)
 
-pub one-over-out : (low high x : ℤ) → Over 1 low high x → (low ≤ℤ x) × (x ≤ℤ high)
-one-over-out low high x h = rw (one-mul-ℤ low, one-mul-ℤ high) at h
+pub over-one-out : (low high x : ℤ) → Over 1 low high x → (low ≤ℤ x) × (x ≤ℤ high)
+over-one-out low high x h = rw (one-mul-ℤ low, one-mul-ℤ high) at h
 
 -- wider ends hold what narrower ones hold
 pub over-wider : (q : ℕ) (low high low′ high′ x : ℤ) → low′ ≤ℤ low → high ≤ℤ high′ → Over q low high x → Over q low′ high′ x
@@ -51,7 +51,7 @@ module _ (k : Kind) where
       (over-one (m .low (m .makes a b)) (m .high (m .makes a b)) a (k .laws .makes-low a b aab) (≤ℤ-trans (wab .1) (k .laws .makes-high a b aab)))
       (over-one (m .low (m .makes c d)) (m .high (m .makes c d)) c (k .laws .makes-low c d acd) (≤ℤ-trans (acd .1) (k .laws .makes-high c d acd))) in
       let t = m .adds s (m .makes a b) (m .makes c d) in
-      let r = one-over-out (m .sum-low t) (m .sum-high t) (x +ℤ (a *ℤ c)) e in
+      let r = over-one-out (m .sum-low t) (m .sum-high t) (x +ℤ (a *ℤ c)) e in
       ≤ℤ-trans (r .0) (r .1)
 
   module _ (e-w : ℕ) (small : e-w ≤ 32767) where
@@ -94,21 +94,21 @@ add-le : (x y c : ℤ) → x ≤ℤ y → (x +ℤ c) ≤ℤ (y +ℤ c)
 add-le x y c h = omega (arith, linear)
 
 pub closed-holds : (n F : ℕ) (low high b x : ℤ) → Over n low high x
-    → Over (n * one-over F) (floor-over (low +ℤ b *ℤ pos (one-over F)) (one-over F)) (ceiling-over (high +ℤ b *ℤ pos (one-over F)) (one-over F)) (x +ℤ pos (n * one-over F) *ℤ b)
+    → Over (n * per-unit F) (floor-over (low +ℤ b *ℤ pos (per-unit F)) (per-unit F)) (ceiling-over (high +ℤ b *ℤ pos (per-unit F)) (per-unit F)) (x +ℤ pos (n * per-unit F) *ℤ b)
 closed-holds n F low high b x h =
-    let d = one-over F in (
-      floor-keeps n d (one-or-more F) (low +ℤ b *ℤ pos d) _ (rw (scaled-bias n d low b) (add-le _ _ _ (h .0))),
-      ceiling-keeps n d (one-or-more F) (high +ℤ b *ℤ pos d) _ (rw (scaled-bias n d high b) (add-le _ _ _ (h .1))),
+    let d = per-unit F in (
+      floor-keeps n d (per-unit-positive F) (low +ℤ b *ℤ pos d) _ (rw (scaled-bias n d low b) (add-le _ _ _ (h .0))),
+      ceiling-keeps n d (per-unit-positive F) (high +ℤ b *ℤ pos d) _ (rw (scaled-bias n d high b) (add-le _ _ _ (h .1))),
     )
 
 pub closed-ordered : (F : ℕ) (low high b : ℤ) → low ≤ℤ high
-    → floor-over (low +ℤ b *ℤ pos (one-over F)) (one-over F) ≤ℤ ceiling-over (high +ℤ b *ℤ pos (one-over F)) (one-over F)
+    → floor-over (low +ℤ b *ℤ pos (per-unit F)) (per-unit F) ≤ℤ ceiling-over (high +ℤ b *ℤ pos (per-unit F)) (per-unit F)
 closed-ordered F low high b h =
-    let d = one-over F in
+    let d = per-unit F in
     let x = low +ℤ b *ℤ pos d in
     let y = high +ℤ b *ℤ pos d in
-    cancel-le d (one-or-more F) (floor-over x d) (ceiling-over y d)
-    (≤ℤ-trans (floor-is x d (one-or-more F) .not-above) (≤ℤ-trans (add-le low high (b *ℤ pos d) h) (ceiling-is y d (one-or-more F) .not-below)))
+    cancel-le d (per-unit-positive F) (floor-over x d) (ceiling-over y d)
+    (≤ℤ-trans (floor-is x d (per-unit-positive F) .not-above) (≤ℤ-trans (add-le low high (b *ℤ pos d) h) (ceiling-is y d (per-unit-positive F) .not-below)))
 
 starts-over : (k : Kind) (n : ℕ) → Over n (k .means .sum-low (k .means .starts)) (k .means .sum-high (k .means .starts)) (pos 0)
 starts-over k n = rw (k .laws .starts-low, k .laws .starts-high) (omega (arith, ints))

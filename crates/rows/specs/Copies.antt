@@ -3,8 +3,8 @@ use mathlib.Core.Path.{_≡_}
 use mathlib.Core.List.{List, [], _∷_}
 use Prim.Native.Nat.{ℕ, _*_}
 use lib.IntN.{ℤ, pos, _+ℤ_, _*ℤ_}
-use Rattle.rounding.specs.Numbers.{Near, Over, one-over}
-use Rattle.bounds.specs.declared.interval.Interval.{Interval}
+use Rattle.rounding.specs.Numbers.{Near, Over, per-unit}
+use Rattle.rounding.specs.declared.interval.Interval.{Interval}
 
 -- there are as many in ys as in xs, and R holds of the two at each place
 pub data Pairs {A B : Type 0} (R : A → B → Type 0) : List A → List B → Type 0 where
@@ -29,4 +29,4 @@ Held q = Pairs (λ a z. Over q (a .low) (a .high) z)
 pub record Row-copy (q F e-w : ℕ) (ws : List ℤ) (b : ℤ) (zs : List ℤ) (h : ℤ) : Type 0 where
   pub weights : List ℤ
   pub near : All-near q e-w ws weights
-  pub numerator : h ≡ dot weights zs +ℤ (pos (q * q * one-over F) *ℤ b)
+  pub numerator : h ≡ dot weights zs +ℤ (pos (q * q * per-unit F) *ℤ b)

@@ -8,7 +8,7 @@ use lib.ListN.{length, getD, take, drop}
 use lib.IntN.{ℤ, pos, negℤ, natAbs}
 use Rattle.rounding.specs.Numbers.{Between, largest}
 use Rattle.bounds.specs.Kinds.{Meanings}
-use Rattle.bounds.specs.declared.interval.Interval.{Interval}
+use Rattle.rounding.specs.declared.interval.Interval.{Interval}
 use Rattle.rows.specs.Sums.{spread, row-bounds}
 use Rattle.rows.specs.declared.fault.RowFault.{RowFault}
 use Rattle.rows.specs.declared.fault.RowFault.the-variants.{Count, Limit}

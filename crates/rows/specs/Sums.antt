@@ -6,7 +6,7 @@ use lib.IntN.{ℤ, pos, negℤ, _+ℤ_, _-ℤ_}
 use Rattle.std.specs.shelf.Lists.{All}
 use Rattle.rounding.specs.Numbers.{Between}
 use Rattle.bounds.specs.Kinds.{Meanings, Activation-ends, closes}
-use Rattle.bounds.specs.declared.interval.Interval.{Interval}
+use Rattle.rounding.specs.declared.interval.Interval.{Interval}
 
 -- a weight keeps to 16 bits
 abbrev pub Weight : ℤ → Type 0

@@ -7,9 +7,9 @@ ghost use Rattle.std.specs.Results.{Cases};
 ghost use lib.ListN.{length};
 use crate::fault::RowFault;
 use crate::row::Row;
-use bounds::interval::Interval;
 use bounds::kind::BoundKind;
 use rounding::LARGEST;
+use rounding::interval::Interval;
 
 // How many columns a row of so many numbers has, if any row has so many.
 fn columns(count: usize) -> Option<usize>
@@ -88,4 +88,34 @@ pub fn row_bounds<K: BoundKind>(numbers: &[i64]) -> Result<Interval, RowFault>
         return Err(RowFault::Limit(i));
     }
     Ok(row_of(numbers, n).bounds::<K>())
+}
+
+#[cfg(test)]
+mod tests {
+    use super::*;
+    use crate::fault::RowFaultDebug;
+    use crate::fault::RowFaultPartialEq;
+    use bounds::centred::CentredKind;
+    use bounds::ends::EndsKind;
+    use std::test::*;
+
+    #[test]
+    fn works_rows_in_both_kinds() -> Result<(), Fail> {
+        let ends = row_bounds::<EndsKind>(&[0, 1, 2, 0, 3, -1])?;
+        check_eq((ends.low, ends.high), (-12, 4))?;
+        let centred = row_bounds::<CentredKind>(&[0, 1, 2, 0, 3, -1])?;
+        check_eq((centred.low, centred.high), (-12, 6))
+    }
+
+    #[test]
+    fn names_the_first_number_outside_its_limits() -> Result<(), Fail> {
+        check_eq(
+            row_bounds::<EndsKind>(&[0, 1, 2, 0, 3]).err(),
+            Some(RowFault::Count),
+        )?;
+        check_eq(
+            row_bounds::<EndsKind>(&[17, 1, -2, 0, 3, 1]).err(),
+            Some(RowFault::Limit(0)),
+        )
+    }
 }

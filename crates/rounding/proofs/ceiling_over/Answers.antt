@@ -6,7 +6,7 @@ use mir.Syntax.{w64}
 use mir.Val.{toZ, ofZ}
 use Rattle.std.proofs.shelf.Signed.{ints}
 use Rattle.rounding.specs.Numbers.{Rounded-up, Sized, floor-over, ceiling-over}
-use Rattle.rounding.proofs.Roundings.{ceiling-is, floor-sized, one-or-more}
+use Rattle.rounding.proofs.Roundings.{ceiling-is, floor-sized, per-unit-positive}
 use Rattle.rounding.proofs.ceiling_over.Needs as need
 
 -- what the call answers
@@ -23,4 +23,4 @@ answer : (c : need.After-floor-over) → toZ w64 (ofZ w64 (pos 0 -ℤ toZ w64 (o
 answer c = negated (c .args .x) _ _ (floor-sized (2 ^ c .args .bits) (minus (c .pre .size))) (called c)
 
 pub returns : need.returns
-returns c = record { value = answer c; rounded = rw (answer c) (ceiling-is (c .args .x) (2 ^ c .args .bits) (one-or-more (c .args .bits))) }
+returns c = record { value = answer c; rounded = rw (answer c) (ceiling-is (c .args .x) (2 ^ c .args .bits) (per-unit-positive (c .args .bits))) }

@@ -1,5 +1,5 @@
 use borrow.Author.Needs.{needs}
-use mathlib.Core.Path.{_≡_, refl, ap, ap₂, _∙_}
+use mathlib.Core.Path.{_≡_, refl, _∙_}
 use Prim.Native.Nat.{_≤_, _<_}
 use native.Mathlib.Omega.{arith}
 use lib.IntN.{pos, _+ℤ_, _-ℤ_}
@@ -8,11 +8,10 @@ use mir.Syntax.{w64}
 use mir.Val.{SFits}
 use Rattle.std.proofs.shelf.Signed.{toZ-ofZ, ints}
 use Rattle.rounding.specs.Numbers.{In-range}
-use Rattle.bounds.specs.Kinds.{Weight-ends, Activation-ends, begun, added, closes}
-use Rattle.bounds.proofs.EndsLaws.{interval}
+use Rattle.bounds.specs.Kinds.{Weight-ends, Activation-ends, begun, added}
 use Rattle.rows.specs.Sums.{Weight}
 use Rattle.rows.proofs.Columns.{column}
-use Rattle.rows.proofs.row.Row.bounds.Needs as need
+use Rattle.rows.proofs.row.Row.sum.Needs as need
 
 pub loop-j-holds : need.loop-j-holds
 loop-j-holds g c = rw (c .start-sum .ensures) (begun, refl)
@@ -84,13 +83,7 @@ loop-j-again g c =
 
 pub returns : need.returns
 returns g c =
-    let k = g .K·BoundKind .means in
     let ws = c .args .self .now .weights .now in
     let end : length ws ≤ c .loop-j .j = omega arith in
-    let whole = simp (drop-of-length-le ws end) at (c .loop-j .inv .1) in
-    let b : SFits w64 (c .args .self .now .bias) = search needs in
-    let low : SFits w64 (c .close-low .result .0) = search needs in
-    let high : SFits w64 (c .close-low .result .1) = search needs in
-    let F = c .args .self .now .bits in
-    let closed = c .close-low .ensures ∙ ap₂ (λ s z. closes k s z F) whole (toZ-ofZ w64 _ b) in
-    ap₂ interval (toZ-ofZ w64 _ low ∙ ap (λ r. r .0) closed) (toZ-ofZ w64 _ high ∙ ap (λ r. r .1) closed)
+    let all : c .loop-j .j ≡ length ws = omega arith in
+    record { value = simp (drop-of-length-le ws end) at (c .loop-j .inv .1); running = simp all at (c .loop-j .inv .0) }

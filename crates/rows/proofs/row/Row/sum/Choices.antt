@@ -3,7 +3,7 @@ use mathlib.Core.Path.{_≡_}
 use lib.ListN.{drop}
 use Rattle.bounds.specs.Kinds.{Running}
 use Rattle.rows.specs.Sums.{spread, summed}
-use Rattle.rows.proofs.row.Row.bounds.Given as given
+use Rattle.rows.proofs.row.Row.sum.Given as given
 
 -- what is left to add comes to the same sum
 abbrev pub Inv-loop-j : given.InvT-loop-j
