@@ -11,7 +11,7 @@ use Rattle.rounding.specs.Numbers.{Over, Sized}
 use Rattle.rounding.proofs.Ring.{linear, mul-add-ℤ, mul-sub-ℤ, mul-swap-ℤ, natAbs-mul, natAbs-add-le, mul-add-add-ℤ}
 use Rattle.rounding.proofs.Roundings.{floor-is}
 use Rattle.rounding.proofs.Machine.{sized-mul, sized-add, sized-sub, sized-more}
-use Rattle.bounds.specs.Kinds.{Kind-laws, Running, begun, added, Weight-ends, Activation-ends}
+use Rattle.bounds.specs.Kinds.{Kind-laws, Running, begun, added}
 use Rattle.bounds.specs.Centred.{abs, middle, product-radius, centred-meanings}
 use Rattle.bounds.specs.declared.centred.Ball.{Ball}
 use Rattle.bounds.proofs.Sizes.{weight-sized, activation-sized, product-size, sums-sized}

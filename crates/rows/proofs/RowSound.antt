@@ -16,7 +16,7 @@ use Rattle.bounds.specs.Kinds.{Kind, Running, begun, added, Weight-ends, Activa
 use Rattle.rounding.specs.declared.interval.Interval.{Interval}
 use Rattle.bounds.proofs.Sizes.{weight-is-activation}
 use Rattle.rows.specs.Sums.{Weight, Activations, Row-limits, summed, row-bounds}
-use Rattle.rows.specs.Copies.{none, more, dot, All-near, Held, Row-copy}
+use Rattle.rows.specs.Copies.{none, more, dot, All-near, Held}
 use Rattle.rows.specs.Claims.{Row-sound}
 
 -- ---- fractions between ends

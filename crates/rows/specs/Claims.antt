@@ -3,7 +3,6 @@ use mathlib.Core.Path.{_≡_}
 use mathlib.Core.List.{List, map}
 use Prim.Native.Nat.{ℕ, _*_, _≤_}
 use lib.IntN.{ℤ, pos, _+ℤ_, _*ℤ_}
-use lib.Signed.{_≤ℤ_}
 use Rattle.rounding.specs.Numbers.{Over, per-unit}
 use Rattle.bounds.specs.Kinds.{Meanings}
 use Rattle.rounding.specs.declared.interval.Interval.{Interval}

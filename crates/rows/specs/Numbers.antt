@@ -9,7 +9,7 @@ use lib.IntN.{ℤ, pos, negℤ, natAbs}
 use Rattle.rounding.specs.Numbers.{Between, largest}
 use Rattle.bounds.specs.Kinds.{Meanings}
 use Rattle.rounding.specs.declared.interval.Interval.{Interval}
-use Rattle.rows.specs.Sums.{spread, row-bounds}
+use Rattle.rows.specs.Sums.{spread, row-bounds, Row-limits}
 use Rattle.rows.specs.declared.fault.RowFault.{RowFault}
 use Rattle.rows.specs.declared.fault.RowFault.the-variants.{Count, Limit}
 
@@ -69,6 +69,10 @@ weights-of ns = take (columns-of (length ns)) (drop 4 ns)
 
 abbrev pub values-of : List ℤ → List ℤ
 values-of ns = drop (4 + columns-of (length ns)) ns
+
+-- what is written keeps the limits of a row
+abbrev pub Written-limits : Type 0
+Written-limits = (ns : List ℤ) → Written ns → Row-limits (weight-distance-of ns) (map (spread (value-distance-of ns)) (values-of ns)) (weights-of ns)
 
 -- its bounds, in a kind that means k
 abbrev pub written-bounds : Meanings → List ℤ → Interval

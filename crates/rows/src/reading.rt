@@ -1,7 +1,7 @@
 ghost use Prim.Native.Nat.{_≤_};
 ghost use mathlib.Core.Path.{_≡_};
 ghost use Rattle.rows.specs.Claims.{Row-sound, Row-exact, Row-copied};
-ghost use Rattle.rows.specs.Numbers.{limits, Counted, columns-of, All-fit, First-outside, Refused, Written, bits-of, weight-distance-of, value-distance-of, bias-of, weights-of, values-of, written-bounds};
+ghost use Rattle.rows.specs.Numbers.{limits, Counted, columns-of, All-fit, First-outside, Refused, Written, bits-of, weight-distance-of, value-distance-of, bias-of, weights-of, values-of, Written-limits, written-bounds};
 ghost use Rattle.std.specs.Options.{Cases as BySome};
 ghost use Rattle.std.specs.Results.{Cases};
 ghost use lib.ListN.{length};
@@ -77,6 +77,7 @@ fn row_of(numbers: &[i64], columns: usize) -> Row<'_>
 // far a value may be off, the bias, then the weights, then as many values. They hold in every copy of the row.
 pub fn row_bounds<K: BoundKind>(numbers: &[i64]) -> Result<Interval, RowFault>
     ensures answer { λ r. ⌜ Cases r (λ i. Written (now (numbers .entry)) × (i ≡ written-bounds (K·BoundKind .means) (now (numbers .entry)))) (Refused (now (numbers .entry))) ⌝ }
+    ensures limits { λ _. ⌜ Written-limits ⌝ }
     ensures sound { λ _. ⌜ Row-sound (K·BoundKind .means) ⌝ }
     ensures exact { λ _. ⌜ Row-exact (K·BoundKind .means) ⌝ }
     ensures copied { λ _. ⌜ Row-copied ⌝ }

@@ -1,11 +1,11 @@
-use mathlib.Core.Path.{_≡_, _∙_, ap, sym, subst}
+use mathlib.Core.Path.{_≡_, _∙_, ap}
 use Prim.Native.Nat.{ℕ, _^_}
 use native.Mathlib.Omega.{arith}
 use lib.IntN.{ℤ, pos, negℤ, _-ℤ_}
 use mir.Syntax.{w64}
 use mir.Val.{toZ, ofZ}
 use Rattle.std.proofs.shelf.Signed.{ints}
-use Rattle.rounding.specs.Numbers.{Rounded-up, Sized, floor-over, ceiling-over}
+use Rattle.rounding.specs.Numbers.{Sized, floor-over, ceiling-over}
 use Rattle.rounding.proofs.Roundings.{ceiling-is, floor-sized, per-unit-positive}
 use Rattle.rounding.proofs.ceiling_over.Needs as need
 

@@ -8,7 +8,7 @@ use lib.ListN.{length, getD, take, drop}
 use mir.Syntax.{w64}
 use mir.Val.{SFits}
 use Rattle.std.proofs.shelf.Lists.{take-rest}
-use Rattle.std.proofs.shelf.Signed.{toZ-ofZ, ints}
+use Rattle.std.proofs.shelf.Signed.{toZ-ofZ}
 use Rattle.rounding.specs.Numbers.{In-range}
 use Rattle.rows.specs.Sums.{Weight}
 use Rattle.rows.specs.Numbers.{Written, columns-of, weights-of, values-of}

@@ -1,5 +1,4 @@
 use native.Mathlib.Omega.{arith}
-use mathlib.Core.Path.{_≡_}
 use Rattle.std.proofs.shelf.Signed.{ints}
 use Rattle.bounds.proofs.CentredLaws.{centred-laws, sum-parts}
 use Rattle.bounds.proofs.centred.CentredKind.close.Needs as need
