@@ -5,13 +5,21 @@ use lib.IntN.{ℤ, pos, negℤ, _+ℤ_, _*ℤ_}
 use lib.Signed.{_≤ℤ_}
 use Rattle.rounding.specs.Numbers.{Over, Sized, rounded-outward}
 
--- the ends that a weight can have: a weight of 16 bits and a distance of at most 32,767
-abbrev pub Weight-ends : ℤ → ℤ → Type 0
-Weight-ends a b = (negℤ (pos 65535) ≤ℤ a) × (a ≤ℤ b) × (b ≤ℤ pos 65535)
+-- how far from 0 an end of a weight can be: a weight of 16 bits and a distance of at most 32,767
+abbrev pub weight-reach : ℕ
+weight-reach = 65535
 
--- the ends that an activation can have: a number in range and a distance of at most 65,535; those of a weight are among them
+-- and an end of an activation: a number in range and a distance of at most 65,535
+abbrev pub activation-reach : ℕ
+activation-reach = 1073807358
+
+-- the ends that a weight can have
+abbrev pub Weight-ends : ℤ → ℤ → Type 0
+Weight-ends a b = (negℤ (pos weight-reach) ≤ℤ a) × (a ≤ℤ b) × (b ≤ℤ pos weight-reach)
+
+-- the ends that an activation can have; those of a weight are among them
 abbrev pub Activation-ends : ℤ → ℤ → Type 0
-Activation-ends a b = (negℤ (pos 1073807358) ≤ℤ a) × (a ≤ℤ b) × (b ≤ℤ pos 1073807358)
+Activation-ends a b = (negℤ (pos activation-reach) ≤ℤ a) × (a ≤ℤ b) × (b ≤ℤ pos activation-reach)
 
 -- what a kind means: its number, the values of its elements and of its running sums, the ends that each value fixes, and MAKE, START and ADD on values
 pub record Meanings : Type 1 where

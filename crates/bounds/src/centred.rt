@@ -1,8 +1,8 @@
-ghost use Prim.Native.Nat.{_^_};
+ghost use Prim.Native.Nat.{_*_, _^_};
 ghost use lib.IntN.{_+ℤ_, _-ℤ_, _*ℤ_};
 ghost use mathlib.Core.Path.{_≡_};
 ghost use Rattle.bounds.specs.Centred.{centred-meanings, abs, middle};
-ghost use Rattle.bounds.specs.Kinds.{Activation-ends};
+ghost use Rattle.bounds.specs.Kinds.{Activation-ends, weight-reach, activation-reach};
 ghost use Rattle.rounding.specs.Numbers.{Between, Sized};
 use crate::kind::BoundKind;
 use rounding::floor_over;
@@ -43,8 +43,8 @@ struct Terms {
 
 // The products of the parts of a weight and of an activation.
 fn products(u: Ball, v: Ball) -> Terms
-    requires weight { ⌜ Sized 65535 (u .centre) × Sized 131070 (u .radius) ⌝ }
-    requires activation { ⌜ Sized 1073807358 (v .centre) × Sized 2147614716 (v .radius) ⌝ }
+    requires weight { ⌜ Sized weight-reach (u .centre) × Sized (2 * weight-reach) (u .radius) ⌝ }
+    requires activation { ⌜ Sized activation-reach (v .centre) × Sized (2 * activation-reach) (v .radius) ⌝ }
     ensures centres { λ r. ⌜ r .centres ≡ u .centre *ℤ v .centre ⌝ }
     ensures first { λ r. ⌜ r .first ≡ abs (u .centre) *ℤ v .radius ⌝ }
     ensures second { λ r. ⌜ r .second ≡ abs (v .centre) *ℤ u .radius ⌝ }

@@ -2,6 +2,7 @@ ghost use mathlib.Core.Path.{_≡_};
 ghost use lib.IntN.{_+ℤ_, _*ℤ_};
 ghost use Prim.Native.Nat.{_^_};
 ghost use Rattle.bounds.specs.Ends.{ends-meanings, least-of, greatest-of};
+ghost use Rattle.bounds.specs.Kinds.{weight-reach, activation-reach};
 ghost use Rattle.rounding.specs.Numbers.{Sized};
 use crate::kind::BoundKind;
 use rounding::interval::Interval;
@@ -21,8 +22,8 @@ struct Corners {
 
 // The products of the ends of a weight and of an activation.
 fn corner_products(u: Interval, v: Interval) -> Corners
-    requires weight { ⌜ Sized 65535 (u .low) × Sized 65535 (u .high) ⌝ }
-    requires activation { ⌜ Sized 1073807358 (v .low) × Sized 1073807358 (v .high) ⌝ }
+    requires weight { ⌜ Sized weight-reach (u .low) × Sized weight-reach (u .high) ⌝ }
+    requires activation { ⌜ Sized activation-reach (v .low) × Sized activation-reach (v .high) ⌝ }
     ensures low_low { λ r. ⌜ r .«low_low» ≡ u .low *ℤ v .low ⌝ }
     ensures low_high { λ r. ⌜ r .«low_high» ≡ u .low *ℤ v .high ⌝ }
     ensures high_low { λ r. ⌜ r .«high_low» ≡ u .high *ℤ v .low ⌝ }

@@ -44,7 +44,7 @@ pub impl fmt::Display for LineFault as LineFaultDisplay {
     }
 }
 
-// The numbers of a line, which spaces separate.
+// The numbers of a line, which white space separates.
 pub(crate) fn numbers(heap: Global, line: &str) -> Result<Vec<i64>, LineFault> {
     let mut found = Vec::new(heap);
     for (i, word) in line.split_ascii_whitespace().enumerate() {

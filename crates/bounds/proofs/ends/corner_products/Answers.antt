@@ -4,11 +4,12 @@ use mir.Syntax.{w64}
 use mir.Val.{toZ, ofZ}
 use Rattle.rounding.specs.Numbers.{Sized}
 use Rattle.rounding.proofs.Machine.{Is, plain, product, fits, back, sized-more}
+use Rattle.bounds.specs.Kinds.{weight-reach, activation-reach}
 use Rattle.bounds.proofs.Sizes.{product-size}
 use Rattle.bounds.proofs.ends.corner_products.Needs as need
 
 -- the machine's product of two ends
-of-ends : {x y : ℤ} → Sized 65535 x → Sized 1073807358 y → Is product-size (toZ w64 (ofZ w64 x) *ℤ toZ w64 (ofZ w64 y)) (x *ℤ y)
+of-ends : {x y : ℤ} → Sized weight-reach x → Sized activation-reach y → Is product-size (toZ w64 (ofZ w64 x) *ℤ toZ w64 (ofZ w64 y)) (x *ℤ y)
 of-ends h k = product (back w64 (plain h) (lit< tt)) (back w64 (plain k) (lit< tt))
 
 pub mul-result : need.mul-result
