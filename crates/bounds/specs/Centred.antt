@@ -16,6 +16,7 @@ middle a b = floor-over (a +ℤ b) 2
 abbrev pub product-radius : Ball → Ball → ℤ
 product-radius u v = (abs (u .centre) *ℤ v .radius +ℤ abs (v .centre) *ℤ u .radius) +ℤ u .radius *ℤ v .radius
 
+-- a ball has its centre less and plus its radius as ends; ADD moves the centre by the product of the centres
 abbrev pub centred-meanings : Meanings
 centred-meanings = record {
   number = 1;

@@ -4,9 +4,11 @@ use Rattle.std.specs.Numbers.{minZ, maxZ}
 use Rattle.bounds.specs.Kinds.{Meanings}
 use Rattle.rounding.specs.declared.interval.Interval.{Interval}
 
+-- the least of four numbers
 abbrev pub least-of : ℤ → ℤ → ℤ → ℤ → ℤ
 least-of x y z w = minZ (minZ x y) (minZ z w)
 
+-- the greatest of four numbers
 abbrev pub greatest-of : ℤ → ℤ → ℤ → ℤ → ℤ
 greatest-of x y z w = maxZ (maxZ x y) (maxZ z w)
 
@@ -17,6 +19,7 @@ products u v = record {
   high = greatest-of (u .low *ℤ v .low) (u .low *ℤ v .high) (u .high *ℤ v .low) (u .high *ℤ v .high);
 }
 
+-- an interval keeps its ends; ADD moves each end by the least and by the greatest product
 abbrev pub ends-meanings : Meanings
 ends-meanings = record {
   number = 0;

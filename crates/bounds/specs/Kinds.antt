@@ -34,10 +34,11 @@ pub record Meanings : Type 1 where
   pub starts : Sum
   pub adds : Sum → Element → Element → Sum
 
--- the element of a weight, and of an activation
+-- u is the element of a weight
 abbrev pub Weight-element : (k : Meanings) → k .Element → Type 0
 Weight-element k u = (a b : ℤ) × Weight-ends a b × (u ≡ k .makes a b)
 
+-- v is the element of an activation
 abbrev pub Activation-element : (k : Meanings) → k .Element → Type 0
 Activation-element k v = (c d : ℤ) × Activation-ends c d × (v ≡ k .makes c d)
 

@@ -1,25 +1,16 @@
 // The worked figures of the specification, by the definitions and by the code.
-ghost use lib.IntN.{pos, negsuc};
+pub mod worked;
+
 ghost use mathlib.Core.Path.{_≡_};
 ghost use Rattle.bounds.specs.Kinds.{Weight-ends, Activation-ends};
-ghost use Rattle.figures.specs.Figures.{Figures, product-ends};
+ghost use Rattle.figures.specs.Figures.{Figures, Agrees, product-ends};
 use bounds::centred::CentredKind;
 use bounds::curve::Curve;
 use bounds::ends::EndsKind;
 use bounds::kind::BoundKind;
 use rounding::interval::Interval;
 use rounding::outward;
-
-// What the code makes of the figures.
-#[derive(Clone, Copy)]
-pub struct WorkedFigures {
-    pub closed: (i64, i64),
-    pub in_ends: (i64, i64),
-    pub in_centred: (i64, i64),
-    pub around_zero: (i64, i64),
-    pub clipped: i64,
-    pub stepped: i64,
-}
+use worked::WorkedFigures;
 
 // The ends of a weight from `a` to `b` times an activation from `c` to `d`.
 fn product<K: BoundKind>(a: i64, b: i64, c: i64, d: i64) -> (i64, i64)
@@ -33,12 +24,7 @@ fn product<K: BoundKind>(a: i64, b: i64, c: i64, d: i64) -> (i64, i64)
 
 // Works the figures.
 fn work() -> WorkedFigures
-    ensures closed { λ r. ⌜ r .closed ≡ (negsuc 1, negsuc 0) ⌝ }
-    ensures in_ends { λ r. ⌜ r .«in_ends» ≡ (negsuc 11, pos 4) ⌝ }
-    ensures in_centred { λ r. ⌜ r .«in_centred» ≡ (negsuc 11, pos 6) ⌝ }
-    ensures around_zero { λ r. ⌜ r .«around_zero» ≡ (negsuc 2, pos 3) ⌝ }
-    ensures clipped { λ r. ⌜ r .clipped ≡ pos 5 ⌝ }
-    ensures stepped { λ r. ⌜ r .stepped ≡ pos 1 ⌝ }
+    ensures { λ r. ⌜ Agrees r ⌝ }
 {
     WorkedFigures {
         closed: outward(Interval { low: -3, high: -3 }, 0, 1),
@@ -53,12 +39,7 @@ fn work() -> WorkedFigures
 // The figures, which hold of the definitions, as the code works them.
 pub fn figures() -> WorkedFigures
     ensures definitions { λ _. ⌜ Figures ⌝ }
-    ensures closed { λ r. ⌜ r .closed ≡ (negsuc 1, negsuc 0) ⌝ }
-    ensures in_ends { λ r. ⌜ r .«in_ends» ≡ (negsuc 11, pos 4) ⌝ }
-    ensures in_centred { λ r. ⌜ r .«in_centred» ≡ (negsuc 11, pos 6) ⌝ }
-    ensures around_zero { λ r. ⌜ r .«around_zero» ≡ (negsuc 2, pos 3) ⌝ }
-    ensures clipped { λ r. ⌜ r .clipped ≡ pos 5 ⌝ }
-    ensures stepped { λ r. ⌜ r .stepped ≡ pos 1 ⌝ }
+    ensures code { λ r. ⌜ Agrees r ⌝ }
 {
     work()
 }

@@ -45,10 +45,11 @@ pub record Rounded-up (x : ℤ) (d : ℕ) (r : ℤ) : Type 0 where
   pub not-below : x ≤ℤ (pos d *ℤ r)
   pub least : (pos d *ℤ (r -ℤ pos 1)) <ℤ x
 
--- x / d rounded down, and rounded up
+-- x / d rounded down
 abbrev pub floor-over : ℤ → ℕ → ℤ
 floor-over x d = shrZ x d
 
+-- x / d rounded up
 abbrev pub ceiling-over : ℤ → ℕ → ℤ
 ceiling-over x d = negℤ (floor-over (negℤ x) d)
 

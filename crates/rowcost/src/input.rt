@@ -25,6 +25,12 @@ pub impl<T: Drop> From<Refused<T>> for LineFault as LineFaultFromRefused {
     }
 }
 
+pub impl From<RowFault> for LineFault as LineFaultFromRow {
+    fn from(fault: RowFault) -> LineFault {
+        LineFault::Row(fault)
+    }
+}
+
 pub impl fmt::Display for LineFault as LineFaultDisplay {
     fn fmt<W: fmt::Write>(&self, f: &mut fmt::Formatter<W>) -> fmt::Result {
         match self {

@@ -9,6 +9,8 @@ ghost use Rattle.std.specs.Results.{Cases};
 ghost use Rattle.std.specs.Vec.{made};
 use crate::input::LineFault;
 use crate::input::LineFaultDisplay;
+use crate::input::LineFaultFromAlloc;
+use crate::input::LineFaultFromRow;
 use bounds::centred::CentredKind;
 use bounds::ends::EndsKind;
 use rounding::interval::Interval;
@@ -52,6 +54,14 @@ fn with_distances(
     Ok(row)
 }
 
+// Works a row with other distances.
+fn cost(heap: Global, numbers: &[i64], weights: i64, values: i64) -> Result<BothKinds, LineFault>
+    ensures { λ r. ⌜ made r (λ b. (2 < length (now (numbers .entry)) → (b .ends ≡ written-bounds ends-meanings (set (set (now (numbers .entry)) 1 weights) 2 values)) × (b .centred ≡ written-bounds centred-meanings (set (set (now (numbers .entry)) 1 weights) 2 values)))) ⌝ }
+{
+    let row = with_distances(heap, numbers, weights, values)?;
+    Ok(both_kinds(row.as_slice())?)
+}
+
 pub(crate) fn refuse(rt: &impl Print, line: usize, fault: LineFault) -> io::Result<()> {
     println!(rt, "line {line}: no row: {fault}")
 }
@@ -59,20 +69,22 @@ pub(crate) fn refuse(rt: &impl Print, line: usize, fault: LineFault) -> io::Resu
 // Prints the bounds of a row with these distances.
 fn show(
     rt: &(impl Print + Alloc<A = Global>),
+    line: usize,
     numbers: &[i64],
     weights: i64,
     values: i64,
 ) -> io::Result<()> {
-    let row = with_distances(rt.alloc(), numbers, weights, values)?;
-    let Ok(both) = both_kinds(row.as_slice()) else {
-        return Ok(());
-    };
-    let Interval { low: a, high: b } = both.ends;
-    let Interval { low: c, high: d } = both.centred;
-    println!(
-        rt,
-        "  weights within {weights}, values within {values}: ends {a}..{b}, centred {c}..{d}"
-    )
+    match cost(rt.alloc(), numbers, weights, values) {
+        Ok(both) => {
+            let Interval { low: a, high: b } = both.ends;
+            let Interval { low: c, high: d } = both.centred;
+            println!(
+                rt,
+                "  weights within {weights}, values within {values}: ends {a}..{b}, centred {c}..{d}"
+            )
+        }
+        Err(fault) => refuse(rt, line, fault),
+    }
 }
 
 // Prints what the row that is written in these numbers comes to: with no distance, with each that it has, and with both.
@@ -89,15 +101,15 @@ pub(crate) fn describe(
     }
     let columns = (numbers.len() - 4) / 2;
     println!(rt, "line {line}: columns {columns}, F {bits}, bias {bias}")?;
-    show(rt, numbers, 0, 0)?;
+    show(rt, line, numbers, 0, 0)?;
     if *weights > 0 {
-        show(rt, numbers, *weights, 0)?;
+        show(rt, line, numbers, *weights, 0)?;
     }
     if *values > 0 {
-        show(rt, numbers, 0, *values)?;
+        show(rt, line, numbers, 0, *values)?;
     }
     if *weights > 0 && *values > 0 {
-        show(rt, numbers, *weights, *values)?;
+        show(rt, line, numbers, *weights, *values)?;
     }
     Ok(())
 }

@@ -1,15 +1,5 @@
-use Rattle.figures.proofs.Worked.{worked-figures}
+use Rattle.figures.proofs.Computed.{worked-figures}
 use Rattle.figures.proofs.figures.Needs as need
 
 pub returns : need.returns
-returns c =
-    let w = c .work .ensures in
-    record {
-      definitions = worked-figures;
-      closed = w .closed;
-      in-ends = w .in-ends;
-      in-centred = w .in-centred;
-      around-zero = w .around-zero;
-      clipped = w .clipped;
-      stepped = w .stepped;
-    }
+returns c = record { definitions = worked-figures; code = c .work .ensures }
