@@ -1,6 +1,6 @@
 -- Division rounded down and up: that it is what it says, and what it keeps of a scaled bound.
 -- Assumes nothing.
-use Rattle.std.proofs.Common.{◌≡◌, ℕ, ◌*◌, ◌≤◌, ℤ, pos, negsuc, ◌+ℤ◌, ◌-ℤ◌, ◌*ℤ◌, neg_ℤ, ◌≤ℤ◌, ◌<ℤ◌, ap, ◌∙◌, mod-lt, mul-le-mul_left, div-add-mod', div-le_self, arith, pow_pos}
+use Rattle.std.proofs.Common.{◌≡◌, ℕ, ◌*◌, ◌≤◌, ℤ, pos, negsuc, ◌+ℤ◌, ◌*ℤ◌, neg_ℤ, ◌≤ℤ◌, ◌<ℤ◌, ap, ◌∙◌, mod-lt, mul-le-mul_left, div-add-mod', div-le_self, arith, pow_pos}
 use lib.IntN.{neg_ℤ-neg_ℤ}
 use borrow.Author.Differences.{ints, lt_out}
 use Rattle.std.proofs.lemmas.Int.{by_lt_z}

@@ -1,4 +1,6 @@
 // Whole numbers, their limits, and division by a power of two rounded outward.
+#![tactic(auto)]
+
 pub mod interval;
 
 ghost use Rattle.std.specs.Prelude.{◌≡◌, ◌^◌, pos, ◌+ℤ◌, ◌*ℤ◌, Decides};

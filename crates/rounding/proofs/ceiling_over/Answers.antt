@@ -5,7 +5,7 @@ use Rattle.rounding.proofs.Roundings.{ceiling_is, floor_sized, per_unit_positive
 use Rattle.rounding.proofs.ceiling_over.Goals as goal
 
 -- what the call answers
-called : (c : goal.After-floor-over) → c.floor_over.result ≡ floor_over (neg_ℤ c.args.x) (2 ^ c.args.bits)
+called : (c : goal.After-floor_over) → c.floor_over.result ≡ floor_over (neg_ℤ c.args.x) (2 ^ c.args.bits)
 called c = c.floor_over.ensures.value ∙ ap (λ z. floor_over z (2 ^ c.args.bits)) (omega (arith, ints, c.requires.size.size))
 
 negated : (r f : ℤ) → Sized (2 ^ 61) f → r ≡ f → to_z w64 (of_z w64 (pos 0 -ℤ to_z w64 (of_z w64 r))) ≡ neg_ℤ f
@@ -14,7 +14,7 @@ negated r f h e = omega (arith, ints, h.size)
 minus : {n : ℕ} {x : ℤ} → Sized n x → Sized n (neg_ℤ x)
 minus h = record { size = omega (arith, ints, h.size) }
 
-answer : (c : goal.After-floor-over) → to_z w64 (of_z w64 (pos 0 -ℤ to_z w64 (of_z w64 c.floor_over.result))) ≡ ceiling_over c.args.x (2 ^ c.args.bits)
+answer : (c : goal.After-floor_over) → to_z w64 (of_z w64 (pos 0 -ℤ to_z w64 (of_z w64 c.floor_over.result))) ≡ ceiling_over c.args.x (2 ^ c.args.bits)
 answer c = negated _ _ (floor_sized (2 ^ c.args.bits) (minus c.requires.size)) (called c)
 
 pub returns : goal.returns

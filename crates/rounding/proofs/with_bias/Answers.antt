@@ -24,14 +24,14 @@ module _ (b : ℤ) (bits : ℕ) (bias : InRange b) (few : bits ≤ 16) where
       → Is (2 ^ 60 + 2 ^ 46) (to_z w64 (of_z w64 x) +ℤ to_z w64 (of_z w64 (to_z w64 (of_z w64 b) *ℤ to_z w64 (1 * 2 ^ bits % 2 ^ 64)))) (x +ℤ b *ℤ pos (2 ^ bits))
   moved x h = sum (back w64 (plain h) (lit< tt)) (back w64 offset (lit< tt))
 
-pub overflow-mul-offset : goal.overflow-mul-offset
-overflow-mul-offset c = fits w64 (offset c.args.bias c.args.bits c.requires.bias c.requires.bits) (lit< tt)
+pub overflow_mul-offset : goal.overflow_mul-offset
+overflow_mul-offset c = fits w64 (offset c.args.bias c.args.bits c.requires.bias c.requires.bits) (lit< tt)
 
-pub overflow-add-result : goal.overflow-add-result
-overflow-add-result c = fits w64 (moved c.args.bias c.args.bits c.requires.bias c.requires.bits c.args.ends.low c.requires.ends.0) (lit< tt)
+pub overflow_add-result : goal.overflow_add-result
+overflow_add-result c = fits w64 (moved c.args.bias c.args.bits c.requires.bias c.requires.bits c.args.ends.low c.requires.ends.0) (lit< tt)
 
-pub overflow-add-result-2 : goal.overflow-add-result-2
-overflow-add-result-2 c = fits w64 (moved c.args.bias c.args.bits c.requires.bias c.requires.bits c.args.ends.high c.requires.ends.1) (lit< tt)
+pub overflow_add-result-2 : goal.overflow_add-result-2
+overflow_add-result-2 c = fits w64 (moved c.args.bias c.args.bits c.requires.bias c.requires.bits c.args.ends.high c.requires.ends.1) (lit< tt)
 
 pub returns : goal.returns
 returns c =
