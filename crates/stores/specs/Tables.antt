@@ -2,7 +2,6 @@
 use Rattle.std.specs.Prelude.{◌≡◌, ℕ, ◌<◌, true, false, List, length, ℤ, Some, None, Ok, Err, Option, slice_index_or}
 use Rattle.rounding.specs.Numbers.{Weight}
 use Rattle.stores.specs.declared.fault.StoreFault.TheVariants.{Full}
-use Rattle.stores.specs.declared.patch.Patch.{Patch}
 use Rattle.stores.specs.Overlay.{Changed, Slot, lookup, room}
 use Rattle.stores.specs.Stores.{Answer}
 

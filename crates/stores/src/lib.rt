@@ -1,4 +1,6 @@
 // Weight stores: the trait with its contracts, plain words, packed halves, and an overlay on any store.
+#![tactic(auto)]
+
 pub mod compare;
 pub mod fault;
 mod half;

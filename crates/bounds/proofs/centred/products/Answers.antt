@@ -15,17 +15,17 @@ sizes : {m n : ℕ} {x y c : ℤ} → x ≡ abs (to_z w64 (of_z w64 c)) → Size
 sizes e h k l r =
     product (back w64 (record { same = e ∙ ap abs (back w64 (plain h) l).same; sized = abs_sized h }) l) (back w64 (plain k) r)
 
-pub overflow-mul-result : goal.overflow-mul-result
-overflow-mul-result c = fits w64 (parts c.requires.weight.0 c.requires.activation.0 (lit< tt) (lit< tt)) (lit< tt)
+pub overflow_mul-result : goal.overflow_mul-result
+overflow_mul-result c = fits w64 (parts c.requires.weight.0 c.requires.activation.0 (lit< tt) (lit< tt)) (lit< tt)
 
-pub overflow-mul-result-2 : goal.overflow-mul-result-2
-overflow-mul-result-2 c = fits w64 (sizes c.abs.ensures.value c.requires.weight.0 c.requires.activation.1 (lit< tt) (lit< tt)) (lit< tt)
+pub overflow_mul-result-2 : goal.overflow_mul-result-2
+overflow_mul-result-2 c = fits w64 (sizes c.abs.ensures.value c.requires.weight.0 c.requires.activation.1 (lit< tt) (lit< tt)) (lit< tt)
 
-pub overflow-mul-result-3 : goal.overflow-mul-result-3
-overflow-mul-result-3 c = fits w64 (sizes c.abs-2.ensures.value c.requires.activation.0 c.requires.weight.1 (lit< tt) (lit< tt)) (lit< tt)
+pub overflow_mul-result-3 : goal.overflow_mul-result-3
+overflow_mul-result-3 c = fits w64 (sizes c.abs-2.ensures.value c.requires.activation.0 c.requires.weight.1 (lit< tt) (lit< tt)) (lit< tt)
 
-pub overflow-mul-result-4 : goal.overflow-mul-result-4
-overflow-mul-result-4 c = fits w64 (parts c.requires.weight.1 c.requires.activation.1 (lit< tt) (lit< tt)) (lit< tt)
+pub overflow_mul-result-4 : goal.overflow_mul-result-4
+overflow_mul-result-4 c = fits w64 (parts c.requires.weight.1 c.requires.activation.1 (lit< tt) (lit< tt)) (lit< tt)
 
 pub returns : goal.returns
 returns c =

@@ -9,17 +9,17 @@ use Rattle.bounds.proofs.ends.corner_products.Goals as goal
 of_ends : {x y : ℤ} → Sized weight_reach x → Sized activation_reach y → Is product_size (to_z w64 (of_z w64 x) *ℤ to_z w64 (of_z w64 y)) (x *ℤ y)
 of_ends h k = product (back w64 (plain h) (lit< tt)) (back w64 (plain k) (lit< tt))
 
-pub overflow-mul-result : goal.overflow-mul-result
-overflow-mul-result c = fits w64 (of_ends c.requires.weight.0 c.requires.activation.0) (lit< tt)
+pub overflow_mul-result : goal.overflow_mul-result
+overflow_mul-result c = fits w64 (of_ends c.requires.weight.0 c.requires.activation.0) (lit< tt)
 
-pub overflow-mul-result-2 : goal.overflow-mul-result-2
-overflow-mul-result-2 c = fits w64 (of_ends c.requires.weight.0 c.requires.activation.1) (lit< tt)
+pub overflow_mul-result-2 : goal.overflow_mul-result-2
+overflow_mul-result-2 c = fits w64 (of_ends c.requires.weight.0 c.requires.activation.1) (lit< tt)
 
-pub overflow-mul-result-3 : goal.overflow-mul-result-3
-overflow-mul-result-3 c = fits w64 (of_ends c.requires.weight.1 c.requires.activation.0) (lit< tt)
+pub overflow_mul-result-3 : goal.overflow_mul-result-3
+overflow_mul-result-3 c = fits w64 (of_ends c.requires.weight.1 c.requires.activation.0) (lit< tt)
 
-pub overflow-mul-result-4 : goal.overflow-mul-result-4
-overflow-mul-result-4 c = fits w64 (of_ends c.requires.weight.1 c.requires.activation.1) (lit< tt)
+pub overflow_mul-result-4 : goal.overflow_mul-result-4
+overflow_mul-result-4 c = fits w64 (of_ends c.requires.weight.1 c.requires.activation.1) (lit< tt)
 
 pub returns : goal.returns
 returns c =
@@ -28,10 +28,10 @@ returns c =
     let d = back w64 (of_ends c.requires.weight.1 c.requires.activation.0) (lit< tt) in
     let e = back w64 (of_ends c.requires.weight.1 c.requires.activation.1) (lit< tt) in
     record {
-      low-low = a.same;
-      low-high = b.same;
-      high-low = d.same;
-      high-high = e.same;
+      low_low = a.same;
+      low_high = b.same;
+      high_low = d.same;
+      high_high = e.same;
       sizes = (
         rw a.same (sized_more a.sized (lit≤ tt)),
         rw b.same (sized_more b.sized (lit≤ tt)),

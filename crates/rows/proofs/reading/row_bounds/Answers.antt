@@ -12,24 +12,24 @@ use Rattle.rows.proofs.reading.row_bounds.Goals as goal
 abbrev kind : given.Over → Kind
 kind g = record { means = g.K.BoundKind.means; laws = g.met.K.BoundKind.lawful }
 
-pub returns-in-default : goal.returns-in-default
-returns-in-default g c = record { answer = c.in-default.ensures; limits = keeps_limits; sound = row_sound (kind g); exact = row_exact (kind g); copied = row_copied }
+pub returns-in_default : goal.returns-in_default
+returns-in_default g c = record { answer = c.in_default.ensures; limits = keeps_limits; sound = row_sound (kind g); exact = row_exact (kind g); copied = row_copied }
 
-pub returns-in-Some-first-outside : goal.returns-in-Some-first-outside
-returns-in-Some-first-outside g c =
-    record { answer = (c.in-Some.ensures.0, c.in-Some-first-outside.ensures); limits = keeps_limits; sound = row_sound (kind g); exact = row_exact (kind g); copied = row_copied }
+pub returns-in-Some-first_outside : goal.returns-in-Some-first_outside
+returns-in-Some-first_outside g c =
+    record { answer = (c.in-Some.ensures.0, c.in-Some-first_outside.ensures); limits = keeps_limits; sound = row_sound (kind g); exact = row_exact (kind g); copied = row_copied }
 
 pub returns : goal.returns
 returns g c =
-    let b = c.row-of.ensures.bits in
-    let e = c.row-of.ensures.weight-distance in
-    let d = c.row-of.ensures.value-distance in
-    let o = c.row-of.ensures.bias in
-    let w = c.row-of.ensures.weights in
-    let x = c.row-of.ensures.values in
+    let b = c.row_of.ensures.bits in
+    let e = c.row_of.ensures.weight_distance in
+    let d = c.row_of.ensures.value_distance in
+    let o = c.row_of.ensures.bias in
+    let w = c.row_of.ensures.weights in
+    let x = c.row_of.ensures.values in
     let same : c.bounds.result ≡ written_bounds g.K.BoundKind.means c.args.numbers.now = c.bounds.ensures ∙ simp (b, e, d, o, w, x) in
     record {
-      answer = ((c.in-Some.ensures.0, c.in-default-first-outside.ensures), same);
+      answer = ((c.in-Some.ensures.0, c.in_default-first_outside.ensures), same);
       limits = keeps_limits;
       sound = row_sound (kind g);
       exact = row_exact (kind g);

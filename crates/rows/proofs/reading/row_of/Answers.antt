@@ -13,8 +13,8 @@ weights_are ns n e = ap (λ m. take m (drop 4 ns)) (let z : 4 + n - 4 ≡ n = om
 values_are : (ns : List ℤ) (n : ℕ) → n ≡ columns_of (length ns) → take (length ns - (4 + n)) (drop (4 + n) ns) ≡ values_of ns
 values_are ns n e = take_rest ns (4 + n) ∙ ap (λ m. drop (4 + m) ns) e
 
-pub invariant-of-result : goal.invariant-of-result
-invariant-of-result c =
+pub invariant_of-result : goal.invariant_of-result
+invariant_of-result c =
     let ns = c.args.numbers.now in
     let written : Written ns = (c.requires.counted, c.requires.fit) in
     let f₀ : SFits w64 (get_or ns 0 (pos 0)) = search rules in
@@ -52,8 +52,8 @@ returns c =
     let f₃ : SFits w64 (get_or ns 3 (pos 0)) = search rules in
     record {
       bits = ap nat_abs (to_z-of_z w64 _ f₀);
-      weight-distance = ap nat_abs (to_z-of_z w64 _ f₁);
-      value-distance = ap nat_abs (to_z-of_z w64 _ f₂);
+      weight_distance = ap nat_abs (to_z-of_z w64 _ f₁);
+      value_distance = ap nat_abs (to_z-of_z w64 _ f₂);
       bias = to_z-of_z w64 _ f₃;
       weights = weights_are ns c.args.columns c.requires.columns;
       values = values_are ns c.args.columns c.requires.columns;

@@ -8,8 +8,8 @@ use Rattle.stores.proofs.half.times_unit.Goals as goal
 -- the machine's product is the product
 product : (c : goal.After-from) → to_z w32 (of_z w32 c.unit.result) *ℤ to_z w32 (of_z w32 c.from.result) ≡ scaled c.args.shift c.args.number
 product c =
-    let u : SFits w32 c.unit.result = record { sfits = c.unit.type-inv } in
-    let f : SFits w32 c.from.result = record { sfits = c.from.type-inv } in
+    let u : SFits w32 c.unit.result = record { sfits = c.unit.type_inv } in
+    let f : SFits w32 c.from.result = record { sfits = c.from.type_inv } in
     let h = c.ranges.number in
     let e = simp to_z-of_z at c.from.ensures in
     simp to_z-of_z (cc)
@@ -17,11 +17,11 @@ product c =
 weight : (c : goal.After-from) → Weight (scaled c.args.shift c.args.number)
 weight c = scaled_weight c.args.shift c.args.number c.unit.ensures.small c.requires.number
 
-pub overflow-mul-result : goal.overflow-mul-result
-overflow-mul-result c = let w = weight c in rw (product c) (omega (arith, ints))
+pub overflow_mul-result : goal.overflow_mul-result
+overflow_mul-result c = let w = weight c in rw (product c) (omega (arith, ints))
 
-pub overflow-cast-result : goal.overflow-cast-result
-overflow-cast-result c = let w = weight c in rw (product c) (omega (arith, ints))
+pub overflow_cast-result : goal.overflow_cast-result
+overflow_cast-result c = let w = weight c in rw (product c) (omega (arith, ints))
 
 pub returns : goal.returns
 returns c = let w = weight c in rw (product c) (omega (arith, ints))

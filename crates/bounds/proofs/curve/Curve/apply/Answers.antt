@@ -18,8 +18,8 @@ returns-in-Clip c =
     let fm : SFits w64 m = c.ranges.m in
     let fp : SFits w64 p = search rules in
     let fr : SFits w64 r = search rules in
-    let ft : SFits w64 c.max-in-Clip.result = record { sfits = c.max-in-Clip.type-inv } in
-    let fz : SFits w64 c.min.result = record { sfits = c.min.type-inv } in
+    let ft : SFits w64 c.max-in-Clip.result = record { sfits = c.max-in-Clip.type_inv } in
+    let fz : SFits w64 c.min.result = record { sfits = c.min.type_inv } in
     let raised : c.max-in-Clip.result ≡ int_max m p = simp to_z-of_z at c.max-in-Clip.ensures.value in
     let held : c.min.result ≡ int_min c.max-in-Clip.result r = simp to_z-of_z at c.min.ensures.value in
     to_z-of_z w64 _ fz ∙ held ∙ ap (λ x. int_min x r) raised ∙ clipped m p r ∙ ap (λ f. curve_at f 1 m) (sym c.in-Clip.is)

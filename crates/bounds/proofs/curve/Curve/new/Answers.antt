@@ -67,7 +67,7 @@ returns-in-0 c =
     let fp : SFits w64 c.args.p = c.ranges.p in
     let fr : SFits w64 c.args.r = c.ranges.r in
     let d = from_unused _ _ _ 0 c.unused.result k (simp to_z-of_z at c.unused.ensures) in
-    record { named = rw c.then-some.ensures (named Identity _ _ _ _ d (identity _ _ _ k)); laws = four_curves }
+    record { named = rw c.then_some.ensures (named Identity _ _ _ _ d (identity _ _ _ k)); laws = four_curves }
 
 pub returns-in-1 : goal.returns-in-1
 returns-in-1 c =
@@ -75,7 +75,7 @@ returns-in-1 c =
     let fp : SFits w64 c.args.p = c.ranges.p in
     let fr : SFits w64 c.args.r = c.ranges.r in
     let d = from_unused _ _ _ 1 c.unused-in-1.result k (simp to_z-of_z at c.unused-in-1.ensures) in
-    record { named = rw c.then-some-in-1.ensures (named Relu _ _ _ _ d (relu _ _ _ k)); laws = four_curves }
+    record { named = rw c.then_some-in-1.ensures (named Relu _ _ _ _ d (relu _ _ _ k)); laws = four_curves }
 
 pub returns-in-2 : goal.returns-in-2
 returns-in-2 c =
@@ -83,7 +83,7 @@ returns-in-2 c =
     let fp : SFits w64 c.args.p = c.ranges.p in
     let fr : SFits w64 c.args.r = c.ranges.r in
     let d = from_ordered _ _ _ 2 c.ordered.result k (simp to_z-of_z at c.ordered.ensures) in
-    let e = simp to_z-of_z at c.then-some-in-2.ensures in
+    let e = simp to_z-of_z at c.then_some-in-2.ensures in
     record { named = rw e (named (Clip c.args.p c.args.r) _ _ _ _ d (clip _ _ _ k)); laws = four_curves }
 
 pub returns-in-3 : goal.returns-in-3
@@ -92,9 +92,9 @@ returns-in-3 c =
     let fp : SFits w64 c.args.p = c.ranges.p in
     let fr : SFits w64 c.args.r = c.ranges.r in
     let d = from_ordered _ _ _ 3 c.ordered-in-3.result k (simp to_z-of_z at c.ordered-in-3.ensures) in
-    let e = simp to_z-of_z at c.then-some-in-3.ensures in
+    let e = simp to_z-of_z at c.then_some-in-3.ensures in
     record { named = rw e (named (Step c.args.p c.args.r) _ _ _ _ d (step _ _ _ k)); laws = four_curves }
 
-pub returns-in-default : goal.returns-in-default
-returns-in-default c =
+pub returns-in_default : goal.returns-in_default
+returns-in_default c =
     record { named = other c.args.code c.args.p c.args.r (λ e. omega (arith, ints)) (λ e. omega (arith, ints)) (λ e. omega (arith, ints)) (λ e. omega (arith, ints)); laws = four_curves }

@@ -9,10 +9,10 @@ pub returns-then-value-entry : goal.returns-then-value-entry
 returns-then-value-entry g c =
     let self = c.args.self.now in
     let below = g.S.Store.meaning self.below in
-    let entry = c.in-ok-entry.entry in
+    let entry = c.in_ok-entry.entry in
     let fits : SFits w16 entry = search rules in
     let is : entry ≡ c.args.value = sym (to_z-of_z w16 entry fits) ∙ ap (to_z w16) (sym c.if-value-entry.true) ∙ to_z-of_z w16 c.args.value c.ranges.value in
-    let back : c.read.result ≡ Some entry = c.in-ok-entry.ensures.ok-part in
+    let back : c.read.result ≡ Some entry = c.in_ok-entry.ensures.ok_part in
     let read : Some entry ≡ read_at below.entries c.args.place = sym back ∙ c.read.ensures in
     let wrote = wrote_entry below self.table.slots c.remove.new.self.slots c.args.place entry c.args.value read is c.remove.ensures in
     record { written = wrote.0; below = refl; table = wrote.1 }
@@ -21,10 +21,10 @@ pub returns : goal.returns
 returns g c =
     let self = c.args.self.now in
     let below = g.S.Store.meaning self.below in
-    let entry = c.in-ok-entry.entry in
+    let entry = c.in_ok-entry.entry in
     let slots = c.put.new.self.slots in
     let put = subst (λ v. Put c.args.place v self.table.slots c.put.result slots) (to_z-of_z w16 c.args.value c.ranges.value) c.put.ensures in
-    let back : c.read.result ≡ Some entry = c.in-ok-entry.ensures.ok-part in
+    let back : c.read.result ≡ Some entry = c.in_ok-entry.ensures.ok_part in
     let read : Some entry ≡ read_at below.entries c.args.place = sym back ∙ c.read.ensures in
     let wrote =
     wrote_other below self.table.slots slots c.args.place entry c.args.value read (λ is. c.if-value-entry.false (ap (of_z w16) (sym is))) c.put.result put

@@ -9,8 +9,8 @@ pub returns : goal.returns
 returns c =
     let bytes = vec_items c.args.self.now.bytes in
     let shift = c.args.self.now.shift in
-    let half = c.in-ok-half.half in
-    let told = c.in-ok-half.ensures in
+    let half = c.in_ok-half.half in
+    let told = c.in_ok-half.ensures in
     let inside : c.args.place / 2 < length bytes = omega arith in
     let worth = told.half.2 ∙ to_z-of_z w16 c.args.value c.ranges.value in
     let now : vec_items c.put.new.self.bytes ≡ set bytes (c.args.place / 2) (with_half (get_or bytes (c.args.place / 2) 0) c.args.place half) = c.put.ensures.bytes in

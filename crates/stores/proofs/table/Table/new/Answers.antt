@@ -3,5 +3,5 @@ use Rattle.stores.specs.Overlay.{table_size}
 use Rattle.stores.proofs.Tables.{empty_apart, empty_weights}
 use Rattle.stores.proofs.table.Table.new.Goals as goal
 
-pub invariant-of-result : goal.invariant-of-result
-invariant-of-result c = (refl, (empty_apart table_size, (empty_weights table_size, tt)))
+pub invariant_of-result : goal.invariant_of-result
+invariant_of-result c = record { all_slots = refl; apart = empty_apart table_size; weights = empty_weights table_size }
