@@ -26,22 +26,16 @@ invariant_of-result c =
     let X : List ℤ → Type 0 = λ l. (i : ℕ) → i < length l → InRange (get_or l i (pos 0)) in
     let wl = ap length ws ∙ weights_length ns written in
     let xl = ap length xs ∙ values_length ns written in
-    let counted = c.requires.counted in (
-      rw (to_z-of_z w64 _ f₀) (bits_fit ns written),
-      (
-        rw (to_z-of_z w64 _ f₁) (weight_distance_fits ns written),
-        (
-          rw (to_z-of_z w64 _ f₃) (bias_fits ns written),
-          (
-            omega (arith, wl),
-            (
-              xl ∙ sym wl,
-              (subst W (sym ws) (weights_fit ns written), (subst X (sym xs) (values_fit ns written), tt)),
-            ),
-          ),
-        ),
-      ),
-    )
+    let counted = c.requires.counted in
+    record {
+      few_bits = rw (to_z-of_z w64 _ f₀) (bits_fit ns written);
+      near = rw (to_z-of_z w64 _ f₁) (weight_distance_fits ns written);
+      bias_fits = rw (to_z-of_z w64 _ f₃) (bias_fits ns written);
+      few = omega (arith, wl);
+      level = xl ∙ sym wl;
+      weights_fit = subst W (sym ws) (weights_fit ns written);
+      values_fit = subst X (sym xs) (values_fit ns written);
+    }
 
 pub returns : goal.returns
 returns c =
