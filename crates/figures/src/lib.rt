@@ -1,11 +1,15 @@
 // The worked figures of the specification, by the definitions and by the code.
+#![tactic(auto)]
+
 pub mod worked;
 
 ghost use Rattle.std.specs.Prelude.{◌≡◌};
 ghost use Rattle.bounds.specs.Kinds.{WeightEnds, ActivationEnds};
 ghost use Rattle.figures.specs.Figures.{Figures, Agrees, product_ends};
 
+use bounds::centred::Centred;
 use bounds::curve::Curve;
+use bounds::ends::Ends;
 use bounds::kind::BoundKind;
 use rounding::interval::Interval;
 use rounding::outward;
@@ -28,9 +32,9 @@ fn work() -> WorkedFigures
 {
     WorkedFigures {
         closed: outward(Interval { low: -3, high: -3 }, 0, 1),
-        in_ends: product::<bounds::ends::Ends>(2, 4, -3, 1),
-        in_centred: product::<bounds::centred::Centred>(2, 4, -3, 1),
-        around_zero: product::<bounds::ends::Ends>(-1, 1, 2, 3),
+        in_ends: product::<Ends>(2, 4, -3, 1),
+        in_centred: product::<Centred>(2, 4, -3, 1),
+        around_zero: product::<Ends>(-1, 1, 2, 3),
         clipped: Curve::Clip(-2, 5).apply(6),
         stepped: Curve::Step(-1, 1).apply(0),
         keeps_high: Packed::keeps(2, 28),

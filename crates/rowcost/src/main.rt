@@ -1,4 +1,6 @@
 // Works rows in both bound kinds, one row to a line of standard input, and prints what each distance costs.
+#![tactic(auto)]
+
 mod input;
 mod report;
 

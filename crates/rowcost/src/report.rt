@@ -4,6 +4,8 @@ ghost use Rattle.bounds.specs.Ends.{ends_meanings};
 ghost use Rattle.rows.specs.Numbers.{Refused, written_bounds};
 
 use crate::input::LineFault;
+use bounds::centred::Centred;
+use bounds::ends::Ends;
 use rounding::interval::Interval;
 use rows::fault::RowFault;
 use rows::reading::row_bounds;
@@ -22,8 +24,8 @@ fn both_kinds(numbers: &[i64]) -> Result<BothKinds, RowFault>
     ensures { MatchResult result (λ b. (b.ends ≡ written_bounds ends_meanings numbers.now) × (b.centred ≡ written_bounds centred_meanings numbers.now)) (Refused numbers.now) }
 {
     Ok(BothKinds {
-        ends: row_bounds::<bounds::ends::Ends>(numbers)?,
-        centred: row_bounds::<bounds::centred::Centred>(numbers)?,
+        ends: row_bounds::<Ends>(numbers)?,
+        centred: row_bounds::<Centred>(numbers)?,
     })
 }
 
