@@ -1,4 +1,6 @@
 // Does the same to five stores, line by line of standard input, and prints what each answers.
+#![tactic(auto)]
+
 mod act;
 mod action;
 mod command;
