@@ -4,7 +4,7 @@ use Rattle.std.proofs.Common.{◌≡◌, ℕ, ◌+◌, ◌<◌, ◌≤◌, List,
 use borrow.Author.Differences.{ints}
 use Rattle.std.proofs.lemmas.Bool.Decides.{nat_tests}
 use Rattle.rounding.specs.Numbers.{Between, InRange, Weight, largest}
-use Rattle.std.proofs.ByRecursion.{All-from_get_or, All-map, All-weaker}
+use Rattle.std.proofs.lemmas.List.Elements.{All-from_get_or, All-map, All-weaker}
 use Rattle.bounds.specs.Kinds.{ActivationEnds}
 use Rattle.rows.specs.Sums.{spread, RowLimits}
 use Rattle.rows.specs.Numbers.{columns_of, limits, Written, FitsAt, bits_of, weight_distance_of, value_distance_of, bias_of, weights_of, values_of}

@@ -1,9 +1,9 @@
 -- With no fraction bits and no distances, a row's bounds are its value.
 -- Assumes nothing.
-use Rattle.std.proofs.Common.{◌≡◌, ℕ, ◌+◌, ◌≤◌, List, [], ◌∷◌, map, length, ℤ, pos, ◌+ℤ◌, ◌-ℤ◌, ◌*ℤ◌, sym, ap, ◌∙◌, subst, ap₂, arith}
+use Rattle.std.proofs.Common.{◌≡◌, ℕ, ◌+◌, ◌≤◌, List, [], ◌∷◌, All, map, length, ℤ, pos, ◌+ℤ◌, ◌-ℤ◌, ◌*ℤ◌, sym, ap, ◌∙◌, subst, ap₂, arith}
 use lib.IntN.{+ℤ_assoc, +ℤ_idr, +ℤ_idl}
 use borrow.Author.Differences.{ints}
-use Rattle.std.specs.List.{AllByRecursion as All}
+use Rattle.std.proofs.lemmas.List.Elements.{All-head, All-tail}
 use Rattle.rounding.specs.Numbers.{Weight}
 use Rattle.rounding.proofs.Roundings.{floor_one, ceiling_one}
 use Rattle.bounds.specs.Kinds.{Kind, Running, begun, added, WeightEnds, ActivationEnds}
@@ -12,7 +12,7 @@ use Rattle.bounds.specs.EndsLaws.{interval}
 use Rattle.rows.specs.Sums.{Activations, spread, summed}
 use Rattle.rows.specs.Copies.{Pairs, none, more, dot}
 use Rattle.rows.specs.Claims.{RowExact}
-use Rattle.rows.proofs.RowSound.{weight_ends}
+use Rattle.rows.proofs.RowSound.{Activation, weight_ends}
 
 -- each interval is one number
 abbrev pub Points : List Interval → List ℤ → Type 0
@@ -31,16 +31,18 @@ module _ (k : Kind) where
       → (k.means.sum_low (summed k.means 0 s ws vs) ≡ x +ℤ dot ws zs) × (k.means.sum_high (summed k.means 0 s ws vs) ≡ x +ℤ dot ws zs)
   summed_points [] p ha hw h l x lo hi = (lo ∙ sym (+ℤ_idr x), hi ∙ sym (+ℤ_idr x))
   summed_points (w ∷ ws) none ha hw h l x lo hi = (lo ∙ sym (+ℤ_idr x), hi ∙ sym (+ℤ_idr x))
-  summed_points (w ∷ ws) (more {x = e} {y = z} {ys = zs} ez p) ha hw {n} {s} h l x lo hi =
+  summed_points (w ∷ ws) (more {x = e} {y = z} {xs = es} {ys = zs} ez p) ha hw {n} {s} h l x lo hi =
       let m = k.means in
       let a = w -ℤ pos 0 in
       let b = w +ℤ pos 0 in
       let t = m.adds s (m.makes a b) (m.makes e.low e.high) in
       let same : t ≡ m.adds s (m.makes w w) (m.makes z z) = ap₂ (m.adds s) (ap₂ m.makes (less_none w) (+ℤ_idr w)) (ap₂ m.makes ez.0 ez.1) in
+      let hh : Weight w = All-head Weight w ws hw in
       let ww : WeightEnds w w = omega (arith, ints) in
-      let zz : ActivationEnds z z = subst (λ y. ActivationEnds y z) ez.0 (subst (λ y. ActivationEnds e.low y) ez.1 ha.0) in
+      let ee : ActivationEnds e.low e.high = All-head Activation e es ha in
+      let zz : ActivationEnds z z = subst (λ y. ActivationEnds y z) ez.0 (subst (λ y. ActivationEnds e.low y) ez.1 ee) in
       let r = k.laws.point_adds n s h (omega arith) x w z ww zz lo hi in
-      let i = summed_points ws p ha.1 hw.1 (added h (omega arith) a b (weight_ends 0 w (omega arith) hw.0) e.low e.high ha.0) (omega arith) (x +ℤ w *ℤ z) (ap m.sum_low same ∙ r.0) (ap m.sum_high same ∙ r.1) in
+      let i = summed_points ws p (All-tail Activation e es ha) (All-tail Weight w ws hw) (added h (omega arith) a b (weight_ends 0 w (omega arith) hh) e.low e.high ee) (omega arith) (x +ℤ w *ℤ z) (ap m.sum_low same ∙ r.0) (ap m.sum_high same ∙ r.1) in
       (i.0 ∙ +ℤ_assoc x (w *ℤ z) (dot ws zs), i.1 ∙ +ℤ_assoc x (w *ℤ z) (dot ws zs))
 
   pub row_exact : RowExact k.means

@@ -1,10 +1,10 @@
 -- Running sums of a bound kind and the bounds that close them: their ends stand in order, and every copy lies within them.
 -- Assumes nothing.
-use Rattle.std.proofs.Common.{◌≡◌, ℕ, ◌+◌, ◌*◌, ◌≤◌, List, [], ◌∷◌, length, ℤ, pos, ◌+ℤ◌, ◌-ℤ◌, ◌*ℤ◌, ◌≤ℤ◌, sym, ap, ◌∙◌, arith}
+use Rattle.std.proofs.Common.{◌≡◌, ℕ, ◌+◌, ◌*◌, ◌≤◌, List, [], ◌∷◌, All, length, ℤ, pos, ◌+ℤ◌, ◌-ℤ◌, ◌*ℤ◌, ◌≤ℤ◌, sym, ap, ◌∙◌, arith}
 use lib.IntN.{*ℤ_comm, +ℤ_assoc, +ℤ_idl, +ℤ_idr}
 use lib.Signed.{≤ℤ_refl}
 use borrow.Author.Differences.{ints}
-use Rattle.std.specs.List.{AllByRecursion as All}
+use Rattle.std.proofs.lemmas.List.Elements.{All-head, All-tail}
 use Rattle.rounding.specs.Numbers.{Near, Over, Weight, per_unit, floor_over, ceiling_over}
 use Rattle.rounding.proofs.Ring.{linear, ≤ℤ_trans, mul_pos_le, mul_add_ℤ, mul_sub_ℤ, mul_assoc_ℤ, one_mul_ℤ}
 use Rattle.rounding.proofs.Roundings.{per_unit_positive, floor_is, ceiling_is, floor_keeps, ceiling_keeps, cancel_le}
@@ -34,6 +34,10 @@ pub weight_ends : (e : ℕ) (w : ℤ) → e ≤ 32767 → Weight w → WeightEnd
 weight_ends e w h k = omega (arith, ints)
 
 -- ---- running sums
+-- an interval that an activation can have
+abbrev pub Activation : Interval → Type 0
+Activation a = ActivationEnds a.low a.high
+
 module _ (k : Kind) where
   pub running_ordered : {n : ℕ} {s : k.means.Sum} → Running k.means n s → k.means.sum_low s ≤ℤ k.means.sum_high s
   running_ordered begun = rw (k.laws.starts_low, k.laws.starts_high) (≤ℤ_refl (pos 0))
@@ -56,7 +60,7 @@ module _ (k : Kind) where
     summed_running [] vs {n} h l hw ha = (n, h)
     summed_running (w ∷ ws) [] {n} h l hw ha = (n, h)
     summed_running (w ∷ ws) (a ∷ vs) {n} h l hw ha =
-        summed_running ws vs (added h (omega arith) (w -ℤ pos e_w) (w +ℤ pos e_w) (weight_ends e_w w small hw.0) a.low a.high ha.0) (omega arith) hw.1 ha.1
+        summed_running ws vs (added h (omega arith) (w -ℤ pos e_w) (w +ℤ pos e_w) (weight_ends e_w w small (All-head Weight w ws hw)) a.low a.high (All-head Activation a vs ha)) (omega arith) (All-tail Weight w ws hw) (All-tail Activation a vs ha)
 
     -- the sum of a copy's products lies within the running sum
     pub summed_holds : (q : ℕ) → 1 ≤ q → {ws us : List ℤ} {vs : List Interval} {zs : List ℤ} → AllNear q e_w ws us → Held q vs zs
@@ -70,15 +74,15 @@ module _ (k : Kind) where
         let m = k.means in
         let a = w -ℤ pos e_w in
         let b = w +ℤ pos e_w in
-        let wab : WeightEnds a b = weight_ends e_w w small hw.0 in
+        let wab : WeightEnds a b = weight_ends e_w w small (All-head Weight w ws hw) in
         let aab = weight_is_activation a b wab in
-        let acd : ActivationEnds e.low e.high = ha.0 in
+        let acd : ActivationEnds e.low e.high = All-head Activation e es ha in
         let t = m.adds s (m.makes a b) (m.makes e.low e.high) in
         let i : Over (q * q) (m.sum_low t) (m.sum_high t) (x +ℤ u *ℤ z) = k.laws.encloses n s h (omega arith) a b wab e.low e.high acd q p x u z o
         (over_wider q a b _ _ u (k.laws.makes_low a b aab) (k.laws.makes_high a b aab) (near_over q e_w w u nw))
         (over_wider q e.low e.high _ _ z (k.laws.makes_low _ _ acd) (k.laws.makes_high _ _ acd) hz) in
         rw (← (+ℤ_assoc x (u *ℤ z) (dot us zs)))
-        (summed_holds q p v r (added h (omega arith) a b wab e.low e.high acd) (omega arith) hw.1 ha.1 (x +ℤ u *ℤ z) i)
+        (summed_holds q p v r (added h (omega arith) a b wab e.low e.high acd) (omega arith) (All-tail Weight w ws hw) (All-tail Activation e es ha) (x +ℤ u *ℤ z) i)
 
 -- ---- closing a row
 -- the bias is added at the scale of the products

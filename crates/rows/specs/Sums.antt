@@ -1,6 +1,5 @@
 -- One row: what it takes in, its running sum and its bounds.
-use Rattle.std.specs.Prelude.{ℕ, ◌≤◌, List, [], ◌∷◌, length, ℤ, pos, ◌+ℤ◌, ◌-ℤ◌}
-use Rattle.std.specs.List.{AllByRecursion as All}
+use Rattle.std.specs.Prelude.{ℕ, ◌≤◌, List, [], ◌∷◌, All, length, ℤ, pos, ◌+ℤ◌, ◌-ℤ◌}
 use Rattle.rounding.specs.Numbers.{Weight}
 use Rattle.bounds.specs.Kinds.{Meanings, ActivationEnds, closes}
 use Rattle.rounding.specs.declared.interval.Interval.{Interval}

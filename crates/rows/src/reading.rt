@@ -91,13 +91,15 @@ pub fn row_bounds<K: BoundKind>(numbers: &[i64]) -> Result<Interval, RowFault>
 #[cfg(test)]
 mod tests {
     use super::*;
+    use bounds::centred::Centred;
+    use bounds::ends::Ends;
     use std::test::Fail;
 
     #[test]
     fn works_rows_in_both_kinds(rt: HostRuntime) -> Result<(), Fail> {
-        let ends = row_bounds::<bounds::ends::Ends>(&[0, 1, 2, 0, 3, -1])?;
+        let ends = row_bounds::<Ends>(&[0, 1, 2, 0, 3, -1])?;
         assert_eq!(rt; (ends.low, ends.high), (-12, 4));
-        let centred = row_bounds::<bounds::centred::Centred>(&[0, 1, 2, 0, 3, -1])?;
+        let centred = row_bounds::<Centred>(&[0, 1, 2, 0, 3, -1])?;
         assert_eq!(rt; (centred.low, centred.high), (-12, 6));
         Ok(())
     }
@@ -105,11 +107,11 @@ mod tests {
     #[test]
     fn names_the_first_number_outside_its_limits(rt: HostRuntime) {
         assert_eq!(rt;
-            row_bounds::<bounds::ends::Ends>(&[0, 1, 2, 0, 3]).err(),
+            row_bounds::<Ends>(&[0, 1, 2, 0, 3]).err(),
             Some(RowFault::Count)
         );
         assert_eq!(rt;
-            row_bounds::<bounds::ends::Ends>(&[17, 1, -2, 0, 3, 1]).err(),
+            row_bounds::<Ends>(&[17, 1, -2, 0, 3, 1]).err(),
             Some(RowFault::Limit(0))
         );
     }

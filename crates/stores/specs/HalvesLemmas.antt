@@ -1,8 +1,8 @@
 -- Half bytes: what they are worth, and the bytes as a list of halves.
 -- Assumes nothing.
-use Rattle.std.specs.Prelude.{◌≡◌, ℕ, zero, suc, ◌+◌, ◌*◌, ◌/◌, ◌%◌, ◌^◌, ◌<◌, ◌≤◌, true, false, ◌&&◌, List, [], ◌∷◌, map, length, ℤ, pos, ◌+ℤ◌, neg_ℤ, ◌≤ℤ◌, ◌<ℤ◌, Some, None, Err, ◌≢◌, int_le, nat_lt, slice_index, slice_index_or, slice_set, refl}
+use Rattle.std.specs.Prelude.{◌≡◌, ℕ, zero, suc, ◌+◌, ◌*◌, ◌/◌, ◌%◌, ◌^◌, ◌<◌, ◌≤◌, true, false, ◌&&◌, List, [], ◌∷◌, All, map, length, ℤ, pos, ◌+ℤ◌, neg_ℤ, ◌≤ℤ◌, ◌<ℤ◌, Some, None, Err, ◌≢◌, int_le, nat_lt, slice_index, slice_index_or, slice_set, refl}
 use Rattle.std.proofs.Common.{ap, ◌∙◌, arith, pow_mono, pow_pos}
-use Rattle.std.specs.List.{AllByRecursion as All}
+use Rattle.std.proofs.lemmas.List.Elements.{All-nil, All-cons}
 use Rattle.std.proofs.lemmas.List.{length-map, get_or-map, map-set}
 use Rattle.std.proofs.lemmas.Int.{by_lt_z, ints}
 use Rattle.std.proofs.lemmas.Bool.Decides.{nat_tests}
@@ -85,12 +85,14 @@ module _ (s : ℕ) (bs : List ℕ) where
 
 -- every entry of a packed store is a weight
 pub packed_weights : (s : ℕ) → s ≤ most_shift → (bs : List ℕ) → All Weight (packed_entries s bs)
-packed_weights s h [] = tt
+packed_weights s h [] = All-nil Weight
 packed_weights s h (b ∷ bs) =
-    let u = unit_small s h in (
-      scaled_weight s (signed_half (b % 16)) u (four_bits (b % 16) (omega arith)),
-      (scaled_weight s (signed_half (b / 16 % 16)) u (four_bits (b / 16 % 16) (omega arith)), packed_weights s h bs),
-    )
+    let u = unit_small s h in
+    let low = scaled_weight s (signed_half (b % 16)) u (four_bits (b % 16) (omega arith)) in
+    let high = scaled_weight s (signed_half (b / 16 % 16)) u (four_bits (b / 16 % 16) (omega arith)) in
+    let upper = scaled s (signed_half (b / 16 % 16)) in
+    let rest = packed_entries s bs in
+    All-cons Weight _ (upper ∷ rest) low (All-cons Weight upper rest high (packed_weights s h bs))
 
 -- ---- the test says what it should
 unscaled : (s : ℕ) (n : ℤ) → floor_over (scaled s n) (2 ^ s) ≡ n

@@ -1,11 +1,11 @@
 -- The entries under an overlay's table: what they are, and what a change of the table does to them.
 -- Assumes nothing.
-use Rattle.std.specs.Prelude.{◌≡◌, ℕ, zero, suc, ◌+◌, ◌<◌, ◌≤◌, true, cond, ◌||◌, ◌≢◌, List, [], ◌∷◌, length, ℤ, pos, Some, None, Ok, Err, Option, ◌==◌, slice_index_or, slice_set, refl}
+use Rattle.std.specs.Prelude.{◌≡◌, ℕ, zero, suc, ◌+◌, ◌<◌, ◌≤◌, true, cond, ◌||◌, ◌≢◌, List, [], ◌∷◌, All, length, ℤ, pos, Some, None, Ok, Err, Option, ◌==◌, slice_index_or, slice_set, refl}
 use Rattle.std.proofs.Common.{ap, ◌∙◌, ⊎_elim, add-zero, zero-add, add-suc, suc-add, le_of_suc-le-suc, arith}
 use Rattle.std.proofs.lemmas.Int.{ints}
 use Rattle.std.proofs.lemmas.Bool.Decides.{nat_tests, leb_tells}
 use Rattle.std.specs.Option.{option_map, unwrap_or}
-use Rattle.std.specs.List.{AllByRecursion as All}
+use Rattle.std.proofs.lemmas.List.Elements.{All-nil, All-cons, All-head, All-tail}
 use Rattle.rounding.specs.Numbers.{Weight}
 use Rattle.stores.specs.declared.fault.StoreFault.TheVariants.{Place, Full}
 use Rattle.stores.specs.Shared.{not_place, read_entry, read_inside, read_past, same_not, same_self}
@@ -37,11 +37,11 @@ overlaid_none i ss n (e ∷ es) = let here = n i in let rest = overlaid_none (su
 
 -- ---- weights over weights are weights
 pub overlaid_weights : (i : ℕ) (ss : List Slot) → TableWeights ss → (es : List ℤ) → All Weight es → All Weight (overlaid i ss es)
-overlaid_weights i ss w [] a = tt
-overlaid_weights i ss w (e ∷ es) a = (here (lookup i ss) (w i), overlaid_weights (suc i) ss w es a.1)
+overlaid_weights i ss w [] a = All-nil Weight
+overlaid_weights i ss w (e ∷ es) a = All-cons Weight _ _ (here (lookup i ss) (w i)) (overlaid_weights (suc i) ss w es (All-tail Weight e es a))
   where
     here : (o : Option ℤ) → ((v : ℤ) → o ≡ Some v → Weight v) → Weight (unwrap_or o e)
-    here None k = a.0
+    here None k = All-head Weight e es a
     here (Some v) k = k v refl
 
 -- ---- one place of the table changes

@@ -1,6 +1,5 @@
 -- A weight store, by what it means.
-use Rattle.std.specs.Prelude.{◌≡◌, ℕ, ◌<◌, ◌≤◌, Bool, cond, ◌&&◌, List, length, ℤ, pos, Some, None, Ok, Err, Option, Result, ◌≢◌, int_le, nat_lt, slice_index_or, slice_set}
-use Rattle.std.specs.List.{AllByRecursion as All}
+use Rattle.std.specs.Prelude.{◌≡◌, ℕ, ◌<◌, ◌≤◌, Bool, cond, ◌&&◌, List, All, length, ℤ, pos, Some, None, Ok, Err, Option, Result, ◌≢◌, int_le, nat_lt, slice_index_or, slice_set}
 use Rattle.rounding.specs.Numbers.{Weight}
 use Rattle.stores.specs.declared.fault.StoreFault.{StoreFault}
 use Rattle.stores.specs.declared.fault.StoreFault.TheVariants.{Place, Value, Full}

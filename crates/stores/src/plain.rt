@@ -2,7 +2,7 @@ ghost use Rattle.std.specs.Prelude.{◌≡◌, ℕ, ◌<◌, ◌≤◌, take, po
 ghost use Rattle.stores.specs.Plain.{AllWeights, plain_meaning};
 ghost use Rattle.stores.specs.Stores.{Untouched, Written, most_places};
 ghost use Rattle.std.proofs.Common.{rules};
-ghost use Rattle.std.proofs.ByRecursion.{All-from_get_or};
+ghost use Rattle.std.proofs.lemmas.List.Elements.{All-from_get_or};
 ghost use Rattle.rounding.specs.Numbers.{Weight};
 
 use crate::fault::StoreFault;
