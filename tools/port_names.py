@@ -11,7 +11,7 @@ import re
 import sys
 
 # names whose words also change with the library's: the old word -> today's
-WORDS = {"natAbs": "unsigned_abs", "getD": "get_or"}
+WORDS = {"natAbs": "nat_abs", "getD": "get_or"}
 # variables that several proofs bind by the same name
 LOCAL = {"e-w", "e-x", "in-u", "in-v", "is-u", "is-v"}
 LETTER = r"[^\s(){}\[\].,;:|«»⌜⌝\"=◌]"

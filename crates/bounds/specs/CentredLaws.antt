@@ -6,7 +6,7 @@ use Rattle.std.proofs.Math.IntN.{+ℤ_invr}
 use Rattle.std.specs.Int.Signed.{≤ℤ_refl}
 use Rattle.std.proofs.lemmas.Int.{ints}
 use Rattle.rounding.specs.Numbers.{Over, Sized}
-use Rattle.rounding.proofs.Ring.{linear, mul_add_ℤ, mul_sub_ℤ, mul_swap_ℤ, nat_abs_mul, unsigned_abs_add_le, mul_add_add_ℤ}
+use Rattle.rounding.proofs.Ring.{linear, mul_add_ℤ, mul_sub_ℤ, mul_swap_ℤ, nat_abs_mul, nat_abs_add_le, mul_add_add_ℤ}
 use Rattle.rounding.proofs.Roundings.{floor_is}
 use Rattle.rounding.proofs.Machine.{sized_mul, sized_add, sized_sub, sized_more}
 use Rattle.bounds.specs.Kinds.{KindLaws, Running, begun, added}
@@ -69,8 +69,8 @@ product_near q r s c d u v h k =
     let whole : u *ℤ v ≡ p *ℤ t +ℤ (p *ℤ f +ℤ (t *ℤ e +ℤ e *ℤ f)) = ap (λ x. x *ℤ v) is_u ∙ ap (λ x. (p +ℤ e) *ℤ x) is_v ∙ mul_add_add_ℤ p e t f in
     let sq = mul_swap_ℤ (pos q) c (pos q) d in
     let rest : u *ℤ v -ℤ pos (q * q) *ℤ (c *ℤ d) ≡ p *ℤ f +ℤ (t *ℤ e +ℤ e *ℤ f) = omega (arith, linear, whole, sq) in
-    let a₁ = unsigned_abs_add_le (p *ℤ f) (t *ℤ e +ℤ e *ℤ f) in
-    let a₂ = unsigned_abs_add_le (t *ℤ e) (e *ℤ f) in
+    let a₁ = nat_abs_add_le (p *ℤ f) (t *ℤ e +ℤ e *ℤ f) in
+    let a₂ = nat_abs_add_le (t *ℤ e) (e *ℤ f) in
     let m₁ : unsigned_abs (p *ℤ f) ≡ q * unsigned_abs c * unsigned_abs f = nat_abs_mul p f ∙ ap (λ n. n * unsigned_abs f) (nat_abs_mul (pos q) c) in
     let m₂ : unsigned_abs (t *ℤ e) ≡ q * unsigned_abs d * unsigned_abs e = nat_abs_mul t e ∙ ap (λ n. n * unsigned_abs e) (nat_abs_mul (pos q) d) in
     let m₃ = nat_abs_mul e f in

@@ -6,7 +6,7 @@ use mir.Syntax.{Width}
 use mir.Val.{hbits}
 use Rattle.std.proofs.lemmas.Int.{to_z-of_z}
 use Rattle.rounding.specs.Numbers.{Sized}
-use Rattle.rounding.proofs.Ring.{linear, nat_abs_mul, unsigned_abs_add_le}
+use Rattle.rounding.proofs.Ring.{linear, nat_abs_mul, nat_abs_add_le}
 
 mag_abs : (z : ℤ) → mag z ≤ nat_abs z
 mag_abs (pos n) = le_refl n
@@ -17,7 +17,7 @@ pub sized_mul : {m n : ℕ} {a c : ℤ} → Sized m a → Sized n c → Sized (m
 sized_mul {m} {n} {a} {c} h k = record { size = rw (nat_abs_mul a c) (mul-le-mul h.size k.size) }
 
 pub sized_add : {m n : ℕ} {a b : ℤ} → Sized m a → Sized n b → Sized (m + n) (a +ℤ b)
-sized_add {a = a} {b = b} h k = record { size = le_trans (unsigned_abs_add_le a b) (add-le-add h.size k.size) }
+sized_add {a = a} {b = b} h k = record { size = le_trans (nat_abs_add_le a b) (add-le-add h.size k.size) }
 
 pub sized_more : {m n : ℕ} {a : ℤ} → Sized m a → m ≤ n → Sized n a
 sized_more h k = record { size = le_trans h.size k }
