@@ -4,9 +4,9 @@ use Rattle.std.specs.Prelude.{◌≡◌, ℕ, ◌+◌, ◌*◌, ◌^◌, ◌≤�
 use Rattle.std.proofs.Common.{ap, ◌∙◌, mul-le-mul_left, mul-le-mul, arith}
 use Rattle.std.proofs.Math.IntN.{+ℤ_invr}
 use Rattle.std.specs.Int.Signed.{≤ℤ_refl}
-use Rattle.std.proofs.lemmas.Int.{ints}
+use Rattle.std.proofs.lemmas.Int.{ints, unsigned_abs-mul}
 use Rattle.rounding.specs.Numbers.{Over, Sized}
-use Rattle.rounding.proofs.Ring.{linear, mul_add_ℤ, mul_sub_ℤ, mul_swap_ℤ, nat_abs_mul, nat_abs_add_le, mul_add_add_ℤ}
+use Rattle.rounding.proofs.Ring.{linear, mul_add_ℤ, mul_sub_ℤ, mul_swap_ℤ, nat_abs_add_le, mul_add_add_ℤ}
 use Rattle.rounding.proofs.Roundings.{floor_is}
 use Rattle.rounding.proofs.Machine.{sized_mul, sized_add, sized_sub, sized_more}
 use Rattle.bounds.specs.Kinds.{KindLaws, Running, begun, added}
@@ -71,9 +71,9 @@ product_near q r s c d u v h k =
     let rest : u *ℤ v -ℤ pos (q * q) *ℤ (c *ℤ d) ≡ p *ℤ f +ℤ (t *ℤ e +ℤ e *ℤ f) = omega (arith, linear, whole, sq) in
     let a₁ = nat_abs_add_le (p *ℤ f) (t *ℤ e +ℤ e *ℤ f) in
     let a₂ = nat_abs_add_le (t *ℤ e) (e *ℤ f) in
-    let m₁ : unsigned_abs (p *ℤ f) ≡ q * unsigned_abs c * unsigned_abs f = nat_abs_mul p f ∙ ap (λ n. n * unsigned_abs f) (nat_abs_mul (pos q) c) in
-    let m₂ : unsigned_abs (t *ℤ e) ≡ q * unsigned_abs d * unsigned_abs e = nat_abs_mul t e ∙ ap (λ n. n * unsigned_abs e) (nat_abs_mul (pos q) d) in
-    let m₃ = nat_abs_mul e f in
+    let m₁ : unsigned_abs (p *ℤ f) ≡ q * unsigned_abs c * unsigned_abs f = unsigned_abs-mul p f ∙ ap (λ n. n * unsigned_abs f) (unsigned_abs-mul (pos q) c) in
+    let m₂ : unsigned_abs (t *ℤ e) ≡ q * unsigned_abs d * unsigned_abs e = unsigned_abs-mul t e ∙ ap (λ n. n * unsigned_abs e) (unsigned_abs-mul (pos q) d) in
+    let m₃ = unsigned_abs-mul e f in
     let z = spreads q (unsigned_abs c) (unsigned_abs d) r s (unsigned_abs e) (unsigned_abs f) h k in
     rw rest (omega arith)
 

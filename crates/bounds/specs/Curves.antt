@@ -1,8 +1,10 @@
 -- The curves, over every denominator, and the three laws that layer work rests on.
-use Rattle.std.specs.Prelude.{◌≡◌, ℕ, ◌≤◌, cond, ℤ, pos, ◌*ℤ◌, ◌≤ℤ◌, Some, None, Option, ◌≢◌, int_lt}
+use Rattle.std.specs.Prelude.{◌≡◌, ℕ, ◌≤◌, if◌then◌else◌, ℤ, pos, ◌*ℤ◌, ◌≤ℤ◌, Some, None, Ok, Err, Option, Result, ◌≢◌, int_lt}
 use Rattle.std.specs.Int.{int_max, int_min}
 use Rattle.rounding.specs.Numbers.{InRange}
 use Rattle.bounds.specs.declared.curve.Curve.{Curve}
+use Rattle.bounds.specs.declared.curve.CurveNumbers.{CurveNumbers}
+use Rattle.bounds.specs.declared.curve.NoCurve.{NoCurve}
 use Rattle.bounds.specs.declared.curve.Curve.TheVariants.{Identity, Relu, Clip, Step}
 
 -- what a curve makes of the numerator m over the denominator D
@@ -10,7 +12,7 @@ abbrev pub curve_at : Curve → ℕ → ℤ → ℤ
 curve_at Identity D m = m
 curve_at Relu D m = int_max m (pos 0)
 curve_at (Clip p r) D m = int_min (int_max m (pos D *ℤ p)) (pos D *ℤ r)
-curve_at (Step p r) D m = cond (int_lt m (pos 0)) (pos D *ℤ p) (pos D *ℤ r)
+curve_at (Step p r) D m = if int_lt m (pos 0) then pos D *ℤ p else pos D *ℤ r
 
 -- the laws of a curve: it never falls, it is one function over all denominators, and over 1 it stays in range
 pub record CurveLaws (f : ℕ → ℤ → ℤ) : Type 0 where
@@ -29,14 +31,19 @@ Lawful (Step p r) = InRange p × InRange r × (p ≤ℤ r)
 abbrev pub FourCurves : Type 0
 FourCurves = (f : Curve) → Lawful f → CurveLaws (curve_at f)
 
--- the code of a curve, with its p and r
-abbrev pub numbers_of : Curve → ℤ × ℤ × ℤ
-numbers_of Identity = (pos 0, pos 0, pos 0)
-numbers_of Relu = (pos 1, pos 0, pos 0)
-numbers_of (Clip p r) = (pos 2, p, r)
-numbers_of (Step p r) = (pos 3, p, r)
+-- the numbers that a curve is written in: its code, p and r
+abbrev pub numbers_of : Curve → CurveNumbers
+numbers_of Identity = record { code = pos 0; p = pos 0; r = pos 0 }
+numbers_of Relu = record { code = pos 1; p = pos 0; r = pos 0 }
+numbers_of (Clip p r) = record { code = pos 2; p = p; r = r }
+numbers_of (Step p r) = record { code = pos 3; p = p; r = r }
 
 -- the answer is the lawful curve that has these numbers, or none where there is no such curve
-abbrev pub Named : ℤ → ℤ → ℤ → Option Curve → Type 0
-Named code p r (Some f) = Lawful f × (numbers_of f ≡ (code, p, r))
-Named code p r None = (f : Curve) → Lawful f → numbers_of f ≢ (code, p, r)
+abbrev pub Named : CurveNumbers → Option Curve → Type 0
+Named n (Some f) = Lawful f × (numbers_of f ≡ n)
+Named n None = (f : Curve) → Lawful f → numbers_of f ≢ n
+
+-- the same where the refusal hands back the numbers
+abbrev pub NamedBy : CurveNumbers → Result Curve NoCurve → Type 0
+NamedBy n (Ok f) = Named n (Some f)
+NamedBy n (Err e) = Named n None × (e.numbers ≡ n)

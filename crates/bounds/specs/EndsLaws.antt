@@ -1,9 +1,10 @@
 -- Kind 0 keeps the laws of a kind.
 -- Assumes nothing.
-use Rattle.std.specs.Prelude.{◌≡◌, ℕ, ◌+◌, ◌*◌, ◌≤◌, ℤ, pos, ◌+ℤ◌, ◌*ℤ◌, ◌≤ℤ◌, refl}
+use Rattle.std.specs.Prelude.{◌≡◌, ℕ, ◌+◌, ◌*◌, ◌^◌, ◌≤◌, ℤ, pos, ◌+ℤ◌, ◌*ℤ◌, ◌≤ℤ◌, refl}
 use Rattle.std.proofs.Common.{arith}
 use Rattle.std.specs.Int.Signed.{≤ℤ_refl}
 use Rattle.std.proofs.lemmas.Int.{clamps, ints}
+use Rattle.rounding.specs.Intervals.{Within, from_to}
 use Rattle.rounding.specs.Numbers.{Over, Sized}
 use Rattle.rounding.proofs.Ring.{mul_pos_le, mul_swap_ℤ, mul_add_ℤ, corners_below, corners_above}
 use Rattle.rounding.proofs.Machine.{sized_mul, sized_add, sized_more}
@@ -11,9 +12,6 @@ use Rattle.bounds.specs.Kinds.{KindLaws, Running, begun, added}
 use Rattle.bounds.specs.Ends.{least_of, greatest_of, products, ends_meanings}
 use Rattle.rounding.specs.declared.interval.Interval.{Interval}
 use Rattle.bounds.specs.Sizes.{weight_sized, activation_sized, product_size, sums_sized}
-
-abbrev pub interval : ℤ → ℤ → Interval
-interval a b = record { low = a; high = b }
 
 -- ---- the least and the greatest of four
 least_below : (x y z w : ℤ) → (least_of x y z w ≤ℤ x) × (least_of x y z w ≤ℤ y) × (least_of x y z w ≤ℤ z) × (least_of x y z w ≤ℤ w)
@@ -78,7 +76,7 @@ sum_sized : {n : ℕ} {s : Interval} → Running ends_meanings n s → Sized (n 
 sum_sized begun = (record { size = omega arith }, record { size = omega arith }, omega arith)
 sum_sized (added {n} {s} h l a b wab c d acd) =
     let i = sum_sized h in
-    let p = products_sized (interval a b) (interval c d) (weight_sized a b wab) (activation_sized c d acd) in
+    let p = products_sized (from_to a b) (from_to c d) (weight_sized a b wab) (activation_sized c d acd) in
     (sized_more (sized_add i.0 p.0) (next n), sized_more (sized_add i.1 p.1) (next n), omega arith)
   where
     next : (n : ℕ) → n * product_size + product_size ≤ (n + 1) * product_size
@@ -95,8 +93,8 @@ ends_laws = record {
   starts_low = refl;
   starts_high = refl;
   encloses = λ n s h l a b wab c d acd q p x u v ox ou ov.
-      let e = interval a b in
-      let f = interval c d in (
+      let e = from_to a b in
+      let f = from_to c d in (
         add_below (q * q) s.low (products e f).low x (u *ℤ v) ox.0 (product_below e f q u v ou ov),
         add_above (q * q) s.high (products e f).high x (u *ℤ v) ox.1 (product_above e f q u v ou ov),
       );
@@ -106,3 +104,7 @@ ends_laws = record {
   sum_low_sized = λ n s h. let i = sum_sized h in sums_sized i.2 (sized_more i.0 (nine n));
   sum_high_sized = λ n s h. let i = sum_sized h in sums_sized i.2 (sized_more i.1 (nine n));
 }
+
+-- both ends of a running sum
+pub sum_within : {n : ℕ} {s : Interval} → Running ends_meanings n s → Within (2 ^ 60) s
+sum_within {n} {s} h = (ends_laws.sum_low_sized n s h, ends_laws.sum_high_sized n s h)

@@ -1,6 +1,8 @@
 -- A bound kind: what its elements and its running sums mean, and the laws that it keeps.
 use Rattle.std.specs.Prelude.{◌≡◌, ℕ, ◌+◌, ◌*◌, ◌^◌, ◌<◌, ◌≤◌, ℤ, pos, ◌+ℤ◌, ◌*ℤ◌, neg_ℤ, ◌≤ℤ◌}
-use Rattle.rounding.specs.Numbers.{Over, Sized, rounded_outward}
+use Rattle.rounding.specs.Numbers.{Over, Sized}
+use Rattle.rounding.specs.Intervals.{rounded_outward}
+use Rattle.rounding.specs.declared.interval.Interval.{Interval}
 
 -- how far from 0 an end of a weight can be: a weight of 16 bits and a distance of at most 32,767
 abbrev pub weight_reach : ℕ
@@ -46,7 +48,7 @@ pub data Running (k : Meanings) : ℕ → k.Sum → Type 0 where
       → Running k (n + 1) (k.adds s (k.makes a b) (k.makes c d))
 
 -- CLOSE: the low and the high of a row with the bias b, in whole units
-abbrev pub closes : (k : Meanings) → k.Sum → ℤ → ℕ → ℤ × ℤ
+abbrev pub closes : (k : Meanings) → k.Sum → ℤ → ℕ → Interval
 closes k s b F = rounded_outward (k.sum_low s) (k.sum_high s) b F
 
 -- the laws of a bound kind

@@ -4,4 +4,5 @@ pub mod Centred
 pub mod Curves
 pub mod CentredLaws
 pub mod Sizes
+pub mod Balls
 pub mod EndsLaws

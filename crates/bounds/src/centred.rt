@@ -1,4 +1,5 @@
-ghost use Rattle.std.specs.Prelude.{◌≡◌, ◌*◌, ◌^◌, ◌+ℤ◌, ◌-ℤ◌, ◌*ℤ◌};
+ghost use Rattle.std.specs.Prelude.{◌≡◌, ◌*◌, ◌^◌, ◌+ℤ◌, ◌-ℤ◌, ◌*ℤ◌, refl};
+ghost use Rattle.bounds.specs.Balls.{Parts, sum_of};
 ghost use Rattle.bounds.specs.Centred.{centred_meanings, abs, middle};
 ghost use Rattle.bounds.specs.Kinds.{ActivationEnds, weight_reach, activation_reach};
 ghost use Rattle.rounding.specs.Numbers.{Between, Sized};
@@ -6,25 +7,53 @@ ghost use Rattle.bounds.specs.CentredLaws.{centred_laws};
 
 use crate::kind::BoundKind;
 use rounding::interval::Interval;
-use rounding::{floor_over, outward};
+use rounding::scale::Scale;
+use std::ops::Add;
 
-// The whole numbers within `radius` of `centre`.
-#[derive(Clone, Copy)]
+/// The whole numbers within `radius` of `centre`.
+#[derive(Clone, Copy, Debug, PartialEq, Eq, Hash)]
 pub struct Ball {
     pub centre: i64,
     pub radius: i64,
 }
 
-// Bound kind 1: elements and sums are kept as a centre and a radius.
+impl Ball {
+    // The first and the last of the numbers.
+    fn ends(self) -> Interval
+        requires { Parts (2 ^ 60) (2 ^ 60) self }
+        ensures low { result.low ≡ self.centre -ℤ self.radius }
+        ensures high { result.high ≡ self.centre +ℤ self.radius }
+    {
+        Interval::around(self.centre, self.radius)
+    }
+}
+
+/// Adds the centres, and the radii.
+impl Add for Ball {
+    type Output = Ball;
+
+    ghost can_add = { λ one other. Parts (2 ^ 60) (2 ^ 60) one × Parts (2 ^ 60) (2 ^ 60) other };
+
+    ghost add_gives = { λ one other sum. sum ≡ sum_of one other };
+
+    fn add(self, other: Ball) -> Ball {
+        Ball {
+            centre: self.centre + other.centre,
+            radius: self.radius + other.radius,
+        }
+    }
+}
+
+/// Bound kind 1: elements and sums are kept as a centre and a radius.
 pub struct Centred;
 
-// The middle of `low` and `high`, rounded down.
-fn midpoint(low: i64, high: i64) -> i64
-    requires { ActivationEnds low high }
-    ensures value { result ≡ middle low high }
-    ensures between { Between low high result }
+// The middle of an activation's ends, rounded down.
+fn midpoint(ends: Interval) -> i64
+    requires { ActivationEnds ends.low ends.high }
+    ensures value { result ≡ middle ends.low ends.high }
+    ensures between { Between ends.low ends.high result }
 {
-    floor_over(low + high, 1)
+    (ends.low + ends.high) >> 1
 }
 
 // The products that make up the product of two balls.
@@ -40,58 +69,36 @@ struct Terms {
     radii: i64,
 }
 
-// The products of the parts of a weight and of an activation.
-fn products(u: Ball, v: Ball) -> Terms
-    requires weight { Sized weight_reach u.centre × Sized (2 * weight_reach) u.radius }
-    requires activation { Sized activation_reach v.centre × Sized (2 * activation_reach) v.radius }
-    ensures centres { result.centres ≡ u.centre *ℤ v.centre }
-    ensures first { result.first ≡ abs u.centre *ℤ v.radius }
-    ensures second { result.second ≡ abs v.centre *ℤ u.radius }
-    ensures radii { result.radii ≡ u.radius *ℤ v.radius }
-    ensures sizes { Sized (2 ^ 58) result.centres × Sized (2 ^ 58) result.first × Sized (2 ^ 58) result.second × Sized (2 ^ 58) result.radii }
-{
-    Terms {
-        centres: u.centre * v.centre,
-        first: u.centre.abs() * v.radius,
-        second: v.centre.abs() * u.radius,
-        radii: u.radius * v.radius,
+impl Terms {
+    // The products of the parts of a weight and of an activation.
+    fn of(weight: Ball, activation: Ball) -> Self
+        requires weight { Parts weight_reach (2 * weight_reach) weight }
+        requires activation { Parts activation_reach (2 * activation_reach) activation }
+        ensures centres { result.centres ≡ weight.centre *ℤ activation.centre }
+        ensures first { result.first ≡ abs weight.centre *ℤ activation.radius }
+        ensures second { result.second ≡ abs activation.centre *ℤ weight.radius }
+        ensures radii { result.radii ≡ weight.radius *ℤ activation.radius }
+        ensures sizes { Sized (2 ^ 58) result.centres × Sized (2 ^ 58) result.first
+            × Sized (2 ^ 58) result.second × Sized (2 ^ 58) result.radii }
+    {
+        Terms {
+            centres: weight.centre * activation.centre,
+            first: weight.centre.abs() * activation.radius,
+            second: activation.centre.abs() * weight.radius,
+            radii: weight.radius * activation.radius,
+        }
     }
-}
 
-// The ball about the product of the centres that takes in all of the product.
-fn joined(t: Terms) -> Ball
-    requires { Sized (2 ^ 58) t.first × Sized (2 ^ 58) t.second × Sized (2 ^ 58) t.radii }
-    ensures centre { result.centre ≡ t.centres }
-    ensures radius { result.radius ≡ t.first +ℤ t.second +ℤ t.radii }
-{
-    Ball {
-        centre: t.centres,
-        radius: t.first + t.second + t.radii,
-    }
-}
-
-// The sum of two balls.
-fn sum(s: Ball, p: Ball) -> Ball
-    requires s { Sized (2 ^ 60) s.centre × Sized (2 ^ 60) s.radius }
-    requires p { Sized (2 ^ 60) p.centre × Sized (2 ^ 60) p.radius }
-    ensures centre { result.centre ≡ s.centre +ℤ p.centre }
-    ensures radius { result.radius ≡ s.radius +ℤ p.radius }
-{
-    Ball {
-        centre: s.centre + p.centre,
-        radius: s.radius + p.radius,
-    }
-}
-
-// The ends of a ball.
-fn ends(b: Ball) -> Interval
-    requires { Sized (2 ^ 60) b.centre × Sized (2 ^ 60) b.radius }
-    ensures low { result.low ≡ b.centre -ℤ b.radius }
-    ensures high { result.high ≡ b.centre +ℤ b.radius }
-{
-    Interval {
-        low: b.centre - b.radius,
-        high: b.centre + b.radius,
+    // The ball about the product of the centres that takes in all of the product.
+    fn joined(self) -> Ball
+        requires { Sized (2 ^ 58) self.first × Sized (2 ^ 58) self.second × Sized (2 ^ 58) self.radii }
+        ensures centre { result.centre ≡ self.centres }
+        ensures radius { result.radius ≡ self.first +ℤ self.second +ℤ self.radii }
+    {
+        Ball {
+            centre: self.centres,
+            radius: self.first + self.second + self.radii,
+        }
     }
 }
 
@@ -102,6 +109,8 @@ impl BoundKind for Centred {
 
     const NUMBER: u8 = 1;
 
+    ghost NUMBER = { 1 };
+
     ghost means = { centred_meanings };
 
     ghost element = { λ u. u };
@@ -110,15 +119,13 @@ impl BoundKind for Centred {
 
     ghost lawful = { centred_laws };
 
-    fn kind_number() -> u8 {
-        Self::NUMBER
-    }
+    ghost numbered = { refl };
 
-    fn make(low: i64, high: i64) -> Ball {
-        let centre = midpoint(low, high);
+    fn make(ends: Interval) -> Ball {
+        let centre = midpoint(ends);
         Ball {
             centre,
-            radius: high - centre,
+            radius: ends.high - centre,
         }
     }
 
@@ -130,10 +137,10 @@ impl BoundKind for Centred {
     }
 
     fn add(so_far: Ball, weight: Ball, activation: Ball) -> Ball {
-        sum(so_far, joined(products(weight, activation)))
+        so_far + Terms::of(weight, activation).joined()
     }
 
-    fn close(whole: Ball, bias: i64, bits: u32) -> (i64, i64) {
-        outward(ends(whole), bias, bits)
+    fn close(whole: Ball, bias: i64, scale: Scale) -> Interval {
+        scale.outward(whole.ends(), bias)
     }
 }

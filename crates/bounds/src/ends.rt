@@ -1,14 +1,15 @@
-ghost use Rattle.std.specs.Prelude.{◌≡◌, ◌^◌, ◌+ℤ◌, ◌*ℤ◌};
+ghost use Rattle.std.specs.Prelude.{◌≡◌, ℤ, ◌^◌, ◌*ℤ◌, refl};
 ghost use Rattle.bounds.specs.Ends.{ends_meanings, least_of, greatest_of};
 ghost use Rattle.bounds.specs.Kinds.{weight_reach, activation_reach};
+ghost use Rattle.rounding.specs.Intervals.{Within};
 ghost use Rattle.rounding.specs.Numbers.{Sized};
 ghost use Rattle.bounds.specs.EndsLaws.{ends_laws};
 
 use crate::kind::BoundKind;
 use rounding::interval::Interval;
-use rounding::outward;
+use rounding::scale::Scale;
 
-// Bound kind 0: elements and sums are kept as their two ends.
+/// Bound kind 0: elements and sums are kept as their two ends.
 pub struct Ends;
 
 // The four products of an end of one interval and an end of another.
@@ -20,63 +21,46 @@ struct Corners {
     high_high: i64,
 }
 
-// The products of the ends of a weight and of an activation.
-fn corner_products(u: Interval, v: Interval) -> Corners
-    requires weight { Sized weight_reach u.low × Sized weight_reach u.high }
-    requires activation { Sized activation_reach v.low × Sized activation_reach v.high }
-    ensures low_low { result.low_low ≡ u.low *ℤ v.low }
-    ensures low_high { result.low_high ≡ u.low *ℤ v.high }
-    ensures high_low { result.high_low ≡ u.high *ℤ v.low }
-    ensures high_high { result.high_high ≡ u.high *ℤ v.high }
-    ensures sizes { Sized (2 ^ 58) result.low_low × Sized (2 ^ 58) result.low_high × Sized (2 ^ 58) result.high_low × Sized (2 ^ 58) result.high_high }
-{
-    Corners {
-        low_low: u.low * v.low,
-        low_high: u.low * v.high,
-        high_low: u.high * v.low,
-        high_high: u.high * v.high,
+impl Corners {
+    // The products of the ends of a weight and of an activation.
+    fn of(weight: Interval, activation: Interval) -> Self
+        requires weight { Within weight_reach weight }
+        requires activation { Within activation_reach activation }
+        ensures low_low { result.low_low ≡ weight.low *ℤ activation.low }
+        ensures low_high { result.low_high ≡ weight.low *ℤ activation.high }
+        ensures high_low { result.high_low ≡ weight.high *ℤ activation.low }
+        ensures high_high { result.high_high ≡ weight.high *ℤ activation.high }
+        ensures sizes { Sized (2 ^ 58) result.low_low × Sized (2 ^ 58) result.low_high
+            × Sized (2 ^ 58) result.high_low × Sized (2 ^ 58) result.high_high }
+    {
+        Corners {
+            low_low: weight.low * activation.low,
+            low_high: weight.low * activation.high,
+            high_low: weight.high * activation.low,
+            high_high: weight.high * activation.high,
+        }
     }
-}
 
-// The least of the four.
-fn least(c: Corners) -> i64
-    ensures { result ≡ least_of c.low_low c.low_high c.high_low c.high_high }
-{
-    let low = c.low_low.min(c.low_high);
-    let high = c.high_low.min(c.high_high);
-    low.min(high)
-}
-
-// The greatest of the four.
-fn greatest(c: Corners) -> i64
-    ensures { result ≡ greatest_of c.low_low c.low_high c.high_low c.high_high }
-{
-    let low = c.low_low.max(c.low_high);
-    let high = c.high_low.max(c.high_high);
-    low.max(high)
-}
-
-// From the least to the greatest of the four.
-fn hull(c: Corners) -> Interval
-    ensures low { result.low ≡ least_of c.low_low c.low_high c.high_low c.high_high }
-    ensures high { result.high ≡ greatest_of c.low_low c.low_high c.high_low c.high_high }
-{
-    Interval {
-        low: least(c),
-        high: greatest(c),
+    // The one that is left of the four where `better` chooses between two.
+    fn best<F: Fn(i64, i64) -> i64>(self, better: F) -> i64
+        requires { F.IsAlwaysCallable better }
+        ensures { (low high : ℤ) × F.post better self.low_low self.low_high low
+            × F.post better self.high_low self.high_high high × F.post better low high result }
+    {
+        let low = better(self.low_low, self.low_high);
+        let high = better(self.high_low, self.high_high);
+        better(low, high)
     }
-}
 
-// The sum of two intervals, end by end.
-fn sum(s: Interval, p: Interval) -> Interval
-    requires s { Sized (2 ^ 60) s.low × Sized (2 ^ 60) s.high }
-    requires p { Sized (2 ^ 60) p.low × Sized (2 ^ 60) p.high }
-    ensures low { result.low ≡ s.low +ℤ p.low }
-    ensures high { result.high ≡ s.high +ℤ p.high }
-{
-    Interval {
-        low: s.low + p.low,
-        high: s.high + p.high,
+    // From the least to the greatest of the four.
+    fn hull(self) -> Interval
+        ensures low { result.low ≡ least_of self.low_low self.low_high self.high_low self.high_high }
+        ensures high { result.high ≡ greatest_of self.low_low self.low_high self.high_low self.high_high }
+    {
+        Interval {
+            low: self.best(i64::min),
+            high: self.best(i64::max),
+        }
     }
 }
 
@@ -87,6 +71,8 @@ impl BoundKind for Ends {
 
     const NUMBER: u8 = 0;
 
+    ghost NUMBER = { 0 };
+
     ghost means = { ends_meanings };
 
     ghost element = { λ u. u };
@@ -95,12 +81,10 @@ impl BoundKind for Ends {
 
     ghost lawful = { ends_laws };
 
-    fn kind_number() -> u8 {
-        Self::NUMBER
-    }
+    ghost numbered = { refl };
 
-    fn make(low: i64, high: i64) -> Interval {
-        Interval { low, high }
+    fn make(ends: Interval) -> Interval {
+        ends
     }
 
     fn start() -> Interval {
@@ -108,10 +92,10 @@ impl BoundKind for Ends {
     }
 
     fn add(so_far: Interval, weight: Interval, activation: Interval) -> Interval {
-        sum(so_far, hull(corner_products(weight, activation)))
+        so_far + Corners::of(weight, activation).hull()
     }
 
-    fn close(whole: Interval, bias: i64, bits: u32) -> (i64, i64) {
-        outward(whole, bias, bits)
+    fn close(whole: Interval, bias: i64, scale: Scale) -> Interval {
+        scale.outward(whole, bias)
     }
 }

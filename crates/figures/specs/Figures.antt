@@ -1,6 +1,7 @@
 -- The worked figures, over the definitions.
-use Rattle.std.specs.Prelude.{◌≡◌, true, false, [], ◌∷◌, ℤ, pos, negsuc, Ok, Err}
-use Rattle.rounding.specs.Numbers.{rounded_outward}
+use Rattle.std.specs.Prelude.{◌≡◌, true, false, [], ◌∷◌, pos, negsuc, Ok, Err}
+use Rattle.rounding.specs.Intervals.{from_to, rounded_outward}
+use Rattle.rounding.specs.declared.interval.Interval.{Interval}
 use Rattle.bounds.specs.Kinds.{Meanings}
 use Rattle.bounds.specs.Ends.{ends_meanings}
 use Rattle.bounds.specs.Centred.{centred_meanings}
@@ -11,19 +12,21 @@ use Rattle.stores.specs.Stores.{reason}
 use Rattle.stores.specs.declared.fault.StoreFault.TheVariants.{Value}
 use Rattle.figures.specs.declared.worked.WorkedFigures.{WorkedFigures}
 
--- the ends of the sum of one product: a weight from a to b times an activation from c to d
-abbrev pub product_ends : (k : Meanings) → ℤ → ℤ → ℤ → ℤ → ℤ × ℤ
-product_ends k a b c d = let s = k.adds k.starts (k.makes a b) (k.makes c d) in (k.sum_low s, k.sum_high s)
+-- the ends of the sum of one product: a weight within a times an activation within b
+abbrev pub product_ends : (k : Meanings) → Interval → Interval → Interval
+product_ends k a b =
+    let s = k.adds k.starts (k.makes a.low a.high) (k.makes b.low b.high) in
+    from_to (k.sum_low s) (k.sum_high s)
 
 -- the figures, of the definitions
 pub record Figures : Type 0 where
   -- the sum -3 with one fraction bit closes to -2 and -1
-  pub closed : rounded_outward (negsuc 2) (negsuc 2) (pos 0) 1 ≡ (negsuc 1, negsuc 0)
+  pub closed : rounded_outward (negsuc 2) (negsuc 2) (pos 0) 1 ≡ from_to (negsuc 1) (negsuc 0)
   -- 2..4 times -3..1 is -12..4 in kind 0, and -12..6 in kind 1
-  pub in_ends : product_ends ends_meanings (pos 2) (pos 4) (negsuc 2) (pos 1) ≡ (negsuc 11, pos 4)
-  pub in_centred : product_ends centred_meanings (pos 2) (pos 4) (negsuc 2) (pos 1) ≡ (negsuc 11, pos 6)
+  pub in_ends : product_ends ends_meanings (from_to (pos 2) (pos 4)) (from_to (negsuc 2) (pos 1)) ≡ from_to (negsuc 11) (pos 4)
+  pub in_centred : product_ends centred_meanings (from_to (pos 2) (pos 4)) (from_to (negsuc 2) (pos 1)) ≡ from_to (negsuc 11) (pos 6)
   -- the weight 0 with a distance of 1 on 2..3 gives -3..3 in kind 0
-  pub around_zero : product_ends ends_meanings (negsuc 0) (pos 1) (pos 2) (pos 3) ≡ (negsuc 2, pos 3)
+  pub around_zero : product_ends ends_meanings (from_to (negsuc 0) (pos 1)) (from_to (pos 2) (pos 3)) ≡ from_to (negsuc 2) (pos 3)
   -- a clip to -2..5 turns 6 into 5
   pub clipped : curve_at (Clip (negsuc 1) (pos 5)) 1 (pos 6) ≡ pos 5
   -- a step from -1 to 1 gives 1 at 0
@@ -39,10 +42,10 @@ pub record Figures : Type 0 where
 
 -- the code's results are the figures
 pub record Agrees (f : WorkedFigures) : Type 0 where
-  pub closed : f.closed ≡ (negsuc 1, negsuc 0)
-  pub in_ends : f.in_ends ≡ (negsuc 11, pos 4)
-  pub in_centred : f.in_centred ≡ (negsuc 11, pos 6)
-  pub around_zero : f.around_zero ≡ (negsuc 2, pos 3)
+  pub closed : f.closed ≡ from_to (negsuc 1) (negsuc 0)
+  pub in_ends : f.in_ends ≡ from_to (negsuc 11) (pos 4)
+  pub in_centred : f.in_centred ≡ from_to (negsuc 11) (pos 6)
+  pub around_zero : f.around_zero ≡ from_to (negsuc 2) (pos 3)
   pub clipped : f.clipped ≡ pos 5
   pub stepped : f.stepped ≡ pos 1
   pub keeps_high : f.keeps_high ≡ true

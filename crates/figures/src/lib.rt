@@ -1,4 +1,4 @@
-// The worked figures of the specification, by the definitions and by the code.
+//! The worked figures of the specification, by the definitions and by the code.
 #![tactic(auto)]
 
 pub mod worked;
@@ -12,29 +12,36 @@ use bounds::curve::Curve;
 use bounds::ends::Ends;
 use bounds::kind::BoundKind;
 use rounding::interval::Interval;
-use rounding::outward;
+use rounding::scale::Scale;
 use stores::packed::Packed;
 use worked::WorkedFigures;
 
-// The ends of a weight from `a` to `b` times an activation from `c` to `d`.
-fn product<K: BoundKind>(a: i64, b: i64, c: i64, d: i64) -> (i64, i64)
-    requires weight { WeightEnds a b }
-    requires activation { ActivationEnds c d }
-    ensures { result ≡ product_ends K.BoundKind.means a b c d }
+// The ends of a weight times an activation.
+fn product<K: BoundKind>(weight: Interval, activation: Interval) -> Interval
+    requires weight { WeightEnds weight.low weight.high }
+    requires activation { ActivationEnds activation.low activation.high }
+    ensures { result ≡ product_ends K.means weight activation }
 {
-    let sum = K::add(K::start(), K::make(a, b), K::make(c, d));
-    K::close(sum, 0, 0)
+    let sum = K::add(K::start(), K::make(weight), K::make(activation));
+    K::close(sum, 0, Scale { bits: 0 })
 }
 
-// Works the figures.
-fn work() -> WorkedFigures
-    ensures { Agrees result }
+/// The figures, which hold of the definitions, as the code works them.
+#[tactic(auto, using(crate::proofs::Computed::worked_figures))]
+pub fn figures() -> WorkedFigures
+    ensures definitions { Figures }
+    ensures code { Agrees result }
 {
+    let minus_three = Interval { low: -3, high: -3 };
+    let weight = Interval { low: 2, high: 4 };
+    let activation = Interval { low: -3, high: 1 };
+    let about_zero = Interval { low: -1, high: 1 };
+    let positive = Interval { low: 2, high: 3 };
     WorkedFigures {
-        closed: outward(Interval { low: -3, high: -3 }, 0, 1),
-        in_ends: product::<Ends>(2, 4, -3, 1),
-        in_centred: product::<Centred>(2, 4, -3, 1),
-        around_zero: product::<Ends>(-1, 1, 2, 3),
+        closed: Scale { bits: 1 }.outward(minus_three, 0),
+        in_ends: product::<Ends>(weight, activation),
+        in_centred: product::<Centred>(weight, activation),
+        around_zero: product::<Ends>(about_zero, positive),
         clipped: Curve::Clip(-2, 5).apply(6),
         stepped: Curve::Step(-1, 1).apply(0),
         keeps_high: Packed::keeps(2, 28),
@@ -44,27 +51,24 @@ fn work() -> WorkedFigures
     }
 }
 
-// The figures, which hold of the definitions, as the code works them.
-pub fn figures() -> WorkedFigures
-    ensures definitions { Figures }
-    ensures code { Agrees result }
-{
-    work()
-}
-
 #[cfg(test)]
 mod tests {
     use super::*;
 
     #[test]
     fn the_code_gives_the_figures(rt: HostRuntime) {
-        let f = figures();
-        assert_eq!(rt; f.closed, (-2, -1));
-        assert_eq!(rt; f.in_ends, (-12, 4));
-        assert_eq!(rt; f.in_centred, (-12, 6));
-        assert_eq!(rt; f.around_zero, (-3, 3));
-        assert_eq!(rt; (f.clipped, f.stepped), (5, 1));
-        assert!(rt; f.keeps_high && f.keeps_low);
-        assert!(rt; !f.keeps_part && !f.keeps_past);
+        let expected = WorkedFigures {
+            closed: Interval { low: -2, high: -1 },
+            in_ends: Interval { low: -12, high: 4 },
+            in_centred: Interval { low: -12, high: 6 },
+            around_zero: Interval { low: -3, high: 3 },
+            clipped: 5,
+            stepped: 1,
+            keeps_high: true,
+            keeps_low: true,
+            keeps_part: false,
+            keeps_past: false,
+        };
+        assert_eq!(rt; figures(), expected);
     }
 }

@@ -1,10 +1,12 @@
-// What the code makes of the figures.
-#[derive(Clone, Copy)]
+use rounding::interval::Interval;
+
+/// What the code makes of the figures.
+#[derive(Clone, Copy, Debug, PartialEq, Eq)]
 pub struct WorkedFigures {
-    pub closed: (i64, i64),
-    pub in_ends: (i64, i64),
-    pub in_centred: (i64, i64),
-    pub around_zero: (i64, i64),
+    pub closed: Interval,
+    pub in_ends: Interval,
+    pub in_centred: Interval,
+    pub around_zero: Interval,
     pub clipped: i64,
     pub stepped: i64,
     pub keeps_high: bool,

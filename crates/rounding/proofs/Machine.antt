@@ -1,20 +1,15 @@
 -- Signed numbers as the machine computes them: each goes to its bits and back, which changes nothing where its size fits the width.
 -- Assumes nothing.
-use Rattle.std.proofs.Common.{◌≡◌, ℕ, ◌+◌, ◌*◌, ◌^◌, ◌<◌, ◌≤◌, ℤ, pos, negsuc, ◌+ℤ◌, ◌-ℤ◌, ◌*ℤ◌, nat_abs, refl, ◌∙◌, ap₂, le_trans, le_refl, lt_of_le_of_lt, add-le-add, mul-le-mul, arith, SFits, to_z, of_z}
-use lib.Signed.{mag}
+use Rattle.std.proofs.Common.{◌≡◌, ℕ, ◌+◌, ◌*◌, ◌^◌, ◌<◌, ◌≤◌, ℤ, ◌+ℤ◌, ◌-ℤ◌, ◌*ℤ◌, refl, ◌∙◌, ap₂, le_trans, lt_of_le_of_lt, add-le-add, mul-le-mul, arith, SFits, to_z, of_z}
 use mir.Syntax.{Width}
 use mir.Val.{hbits}
-use Rattle.std.proofs.lemmas.Int.{to_z-of_z}
+use Rattle.std.proofs.lemmas.Int.{to_z-of_z, unsigned_abs-mul, fits_signed_from_abs}
 use Rattle.rounding.specs.Numbers.{Sized}
-use Rattle.rounding.proofs.Ring.{linear, nat_abs_mul, nat_abs_add_le}
-
-mag_abs : (z : ℤ) → mag z ≤ nat_abs z
-mag_abs (pos n) = le_refl n
-mag_abs (negsuc n) = omega arith
+use Rattle.rounding.proofs.Ring.{linear, nat_abs_add_le}
 
 -- sizes of products and sums
 pub sized_mul : {m n : ℕ} {a c : ℤ} → Sized m a → Sized n c → Sized (m * n) (a *ℤ c)
-sized_mul {m} {n} {a} {c} h k = record { size = rw (nat_abs_mul a c) (mul-le-mul h.size k.size) }
+sized_mul {m} {n} {a} {c} h k = record { size = rw (unsigned_abs-mul a c) (mul-le-mul h.size k.size) }
 
 pub sized_add : {m n : ℕ} {a b : ℤ} → Sized m a → Sized n b → Sized (m + n) (a +ℤ b)
 sized_add {a = a} {b = b} h k = record { size = le_trans (nat_abs_add_le a b) (add-le-add h.size k.size) }
@@ -45,7 +40,7 @@ difference h k = record { same = ap₂ ◌-ℤ◌ h.same k.same; sized = sized_s
 module _ (w : Width) {n : ℕ} {x z : ℤ} (h : Is n x z) (small : n < 2 ^ hbits w) where
   -- it fits the width, and going to its bits and back changes nothing
   pub fits : SFits w x
-  fits = rw h.same (record { sfits = lt_of_le_of_lt (le_trans (mag_abs z) h.sized.size) small })
+  fits = rw h.same (fits_signed_from_abs w z (lt_of_le_of_lt h.sized.size small))
 
   pub back : Is n (to_z w (of_z w x)) z
   back = record { same = to_z-of_z w x fits ∙ h.same; sized = h.sized }

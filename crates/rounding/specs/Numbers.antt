@@ -55,8 +55,3 @@ floor_over x d = shr_z x d
 -- x / d rounded up
 abbrev pub ceiling_over : ℤ → ℕ → ℤ
 ceiling_over x d = neg_ℤ (floor_over (neg_ℤ x) d)
-
--- the ends of a running sum of products with the bias b, in whole units: the low rounded down, the high rounded up
-abbrev pub rounded_outward : ℤ → ℤ → ℤ → ℕ → ℤ × ℤ
-rounded_outward low high b F =
-    (floor_over (low +ℤ (b *ℤ pos (per_unit F))) (per_unit F), ceiling_over (high +ℤ (b *ℤ pos (per_unit F))) (per_unit F))

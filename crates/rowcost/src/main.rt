@@ -1,21 +1,25 @@
-// Works rows in both bound kinds, one row to a line of standard input, and prints what each distance costs.
+//! Works rows in both bound kinds, one row to a line of standard input, and prints what each
+//! distance costs.
 #![tactic(auto)]
 
 mod input;
 mod report;
 
 use input::numbers;
-use report::{describe, refuse};
+use report::Report;
 use std::io;
 
 fn main(rt: HostRuntime) -> io::Result<()> {
     for (i, line) in rt.lines(rt.alloc()).enumerate() {
         let line = line?;
-        let number = i.saturating_add(1);
-        match numbers(rt.alloc(), line.as_str()) {
+        let report = Report {
+            rt: &rt,
+            line: i.saturating_add(1),
+        };
+        match numbers(rt.alloc(), &line) {
             Ok(row) if row.is_empty() => {}
-            Ok(row) => describe(&rt, number, row.as_slice())?,
-            Err(fault) => refuse(&rt, number, fault)?,
+            Ok(row) => report.describe(&row)?,
+            Err(fault) => report.refuse(fault)?,
         }
     }
     Ok(())

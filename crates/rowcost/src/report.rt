@@ -1,7 +1,6 @@
-ghost use Rattle.std.specs.Prelude.{◌≡◌, ◌<◌, length, IfOk, MatchResult, slice_set};
-ghost use Rattle.bounds.specs.Centred.{centred_meanings};
-ghost use Rattle.bounds.specs.Ends.{ends_meanings};
-ghost use Rattle.rows.specs.Numbers.{Refused, written_bounds};
+ghost use Rattle.std.specs.Prelude.{◌≡◌, ◌<◌, length, IfOk, MatchResult, OnOk};
+ghost use Rattle.rowcost.specs.Distances.{both_bounds, with_distances};
+ghost use Rattle.rows.specs.Numbers.{Refused, Written};
 
 use crate::input::LineFault;
 use bounds::centred::Centred;
@@ -10,18 +9,40 @@ use rounding::interval::Interval;
 use rows::fault::RowFault;
 use rows::reading::row_bounds;
 use std::alloc::{AllocError, Global};
-use std::io;
+use std::{fmt, io};
 
-// A row's bounds in the two kinds.
-#[derive(Clone, Copy)]
+/// How far the weights and the values of a row may be off.
+#[derive(Clone, Copy, Debug, Default, PartialEq, Eq)]
+struct Distances {
+    weights: i64,
+    values: i64,
+}
+
+impl fmt::Display for Distances {
+    fn fmt<W: fmt::Write>(&self, f: &mut fmt::Formatter<W>) -> fmt::Result {
+        let Distances { weights, values } = self;
+        write!(f, "weights within {weights}, values within {values}")
+    }
+}
+
+/// A row's bounds in the two kinds.
+#[derive(Clone, Copy, Debug, PartialEq, Eq)]
 struct BothKinds {
     ends: Interval,
     centred: Interval,
 }
 
-// Works the row that is written in these numbers.
+impl fmt::Display for BothKinds {
+    fn fmt<W: fmt::Write>(&self, f: &mut fmt::Formatter<W>) -> fmt::Result {
+        let BothKinds { ends, centred } = self;
+        write!(f, "ends {ends}, centred {centred}")
+    }
+}
+
+/// Works the row that is written in these numbers.
 fn both_kinds(numbers: &[i64]) -> Result<BothKinds, RowFault>
-    ensures { MatchResult result (λ b. (b.ends ≡ written_bounds ends_meanings numbers.now) × (b.centred ≡ written_bounds centred_meanings numbers.now)) (Refused numbers.now) }
+    ensures written { OnOk result (Written numbers.now) }
+    ensures bounds { MatchResult result (λ b. b ≡ both_bounds numbers.now) (Refused numbers.now) }
 {
     Ok(BothKinds {
         ends: row_bounds::<Ends>(numbers)?,
@@ -29,78 +50,86 @@ fn both_kinds(numbers: &[i64]) -> Result<BothKinds, RowFault>
     })
 }
 
-// The numbers of a row with other distances.
+/// Where a row's numbers have the distance of its weights.
+const WEIGHTS: usize = 1;
+
+/// Where a row's numbers have the distance of its values.
+const VALUES: usize = 2;
+
+/// The numbers of a row with these distances in the place of its own.
 fn with_distances(
-    heap: Global,
+    alloc: Global,
     numbers: &[i64],
-    weights: i64,
-    values: i64,
+    distances: Distances,
 ) -> Result<Vec<i64>, AllocError>
-    ensures { IfOk result (λ v. (2 < length numbers.now → v.items ≡ slice_set (slice_set numbers.now 1 weights) 2 values)) }
+    ensures { IfOk result (λ row.
+        2 < length numbers.now → row.items ≡ with_distances numbers.now distances) }
 {
-    let mut row = numbers.to_vec(heap)?;
-    if row.len() > 2 {
-        row[1] = weights;
-        row[2] = values;
+    let mut row = numbers.to_vec(alloc)?;
+    if row.len() > VALUES {
+        row[WEIGHTS] = distances.weights;
+        row[VALUES] = distances.values;
     }
     Ok(row)
 }
 
-// Works a row with other distances.
-fn cost(heap: Global, numbers: &[i64], weights: i64, values: i64) -> Result<BothKinds, LineFault>
-    ensures { IfOk result (λ b. (2 < length numbers.now → (b.ends ≡ written_bounds ends_meanings (slice_set (slice_set numbers.now 1 weights) 2 values)) × (b.centred ≡ written_bounds centred_meanings (slice_set (slice_set numbers.now 1 weights) 2 values)))) }
+/// Works a row with these distances in the place of its own.
+fn cost(alloc: Global, numbers: &[i64], distances: Distances) -> Result<BothKinds, LineFault>
+    ensures { IfOk result (λ b.
+        2 < length numbers.now → b ≡ both_bounds (with_distances numbers.now distances)) }
 {
-    let row = with_distances(heap, numbers, weights, values)?;
-    Ok(both_kinds(row.as_slice())?)
+    let row = with_distances(alloc, numbers, distances)?;
+    Ok(both_kinds(&row)?)
 }
 
-pub(crate) fn refuse(rt: &impl Print, line: usize, fault: LineFault) -> io::Result<()> {
-    println!(rt; "line {line}: no row: {fault}")
+/// Prints what the line with this number comes to.
+#[derive(Drop)]
+pub(crate) struct Report<'a, R> {
+    pub(crate) rt: &'a R,
+    pub(crate) line: usize,
 }
 
-// Prints the bounds of a row with these distances.
-fn show(
-    rt: &(impl Print + AllocGlobal),
-    line: usize,
-    numbers: &[i64],
-    weights: i64,
-    values: i64,
-) -> io::Result<()> {
-    match cost(rt.alloc(), numbers, weights, values) {
-        Ok(both) => {
-            let Interval { low: a, high: b } = both.ends;
-            let Interval { low: c, high: d } = both.centred;
-            println!(rt;
-                "  weights within {weights}, values within {values}: ends {a}..{b}, centred {c}..{d}"
-            )
+impl<R: Print + AllocGlobal> Report<'_, R> {
+    /// Prints why the line is no row.
+    pub(crate) fn refuse(&self, fault: LineFault) -> io::Result<()> {
+        println!(self.rt; "line {}: no row: {fault}", self.line)
+    }
+
+    /// Prints the bounds of a row with these distances.
+    fn show(&self, numbers: &[i64], distances: Distances) -> io::Result<()> {
+        match cost(self.rt.alloc(), numbers, distances) {
+            Ok(bounds) => println!(self.rt; "  {distances}: {bounds}"),
+            Err(fault) => self.refuse(fault),
         }
-        Err(fault) => refuse(rt, line, fault),
     }
-}
 
-// Prints what the row that is written in these numbers comes to: with no distance, with each that it has, and with both.
-pub(crate) fn describe(
-    rt: &(impl Print + AllocGlobal),
-    line: usize,
-    numbers: &[i64],
-) -> io::Result<()> {
-    let [bits, weights, values, bias, ..] = numbers else {
-        return refuse(rt, line, LineFault::Row(RowFault::Count));
-    };
-    if let Err(fault) = both_kinds(numbers) {
-        return refuse(rt, line, LineFault::Row(fault));
+    /// Prints what the row that is written in these numbers comes to: with no distance, with each
+    /// that it has, and with both.
+    pub(crate) fn describe(&self, numbers: &[i64]) -> io::Result<()> {
+        if let Err(fault) = both_kinds(numbers) {
+            return self.refuse(fault.into());
+        }
+        let &[bits, weights, values, bias, ref products @ ..] = numbers else {
+            unreachable!()
+        };
+        let columns = products.len() / 2;
+        println!(self.rt;
+            "line {}: columns {columns}, F {bits}, bias {bias}",
+            self.line
+        )?;
+        let none = Distances::default();
+        let own = Distances { weights, values };
+        let cases = [
+            none,
+            Distances { values: 0, ..own },
+            Distances { weights: 0, ..own },
+            own,
+        ];
+        for (i, distances) in cases.iter().enumerate() {
+            if !cases[..i].contains(distances) {
+                self.show(numbers, *distances)?;
+            }
+        }
+        Ok(())
     }
-    let columns = (numbers.len() - 4) / 2;
-    println!(rt; "line {line}: columns {columns}, F {bits}, bias {bias}")?;
-    show(rt, line, numbers, 0, 0)?;
-    if *weights > 0 {
-        show(rt, line, numbers, *weights, 0)?;
-    }
-    if *values > 0 {
-        show(rt, line, numbers, 0, *values)?;
-    }
-    if *weights > 0 && *values > 0 {
-        show(rt, line, numbers, *weights, *values)?;
-    }
-    Ok(())
 }

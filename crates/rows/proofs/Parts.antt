@@ -1,18 +1,21 @@
 -- The parts of a row that is written keep their limits.
 -- Assumes nothing.
-use Rattle.std.proofs.Common.{◌≡◌, ℕ, ◌+◌, ◌<◌, ◌≤◌, List, map, length, get_or, drop, ℤ, pos, ◌+ℤ◌, ◌-ℤ◌, neg_ℤ, subst, arith, length-drop, length-take, get_or-drop, get_or-take}
+use Rattle.std.proofs.Common.{◌≡◌, ℕ, ◌+◌, ◌-◌, ◌<◌, ◌≤◌, List, map, length, get_or, take, drop, drop-drop, refl, ℤ, pos, ◌+ℤ◌, ◌-ℤ◌, neg_ℤ, subst, arith, length-drop, length-take, get_or-drop, get_or-take}
 use borrow.Author.Differences.{ints}
 use Rattle.std.proofs.lemmas.Bool.Decides.{nat_tests}
+use Rattle.std.proofs.lemmas.List.{take_rest}
+use Rattle.rounding.specs.Intervals.{from_to}
 use Rattle.rounding.specs.Numbers.{Between, InRange, Weight, largest}
 use Rattle.std.proofs.lemmas.List.Elements.{All-from_get_or, All-map, All-weaker}
 use Rattle.bounds.specs.Kinds.{ActivationEnds}
+use Rattle.rounding.specs.declared.interval.Interval.{Interval}
 use Rattle.rows.specs.Sums.{spread, RowLimits}
 use Rattle.rows.specs.Numbers.{columns_of, limits, Written, FitsAt, bits_of, weight_distance_of, value_distance_of, bias_of, weights_of, values_of}
 
-weight_limits : (n i : ℕ) → i < n → limits n (4 + i) ≡ (neg_ℤ (pos 32768), pos 32767)
+weight_limits : (n i : ℕ) → i < n → limits n (4 + i) ≡ from_to (neg_ℤ (pos 32768)) (pos 32767)
 weight_limits n i h = grind (arith, nat_tests)
 
-value_limits : (n i : ℕ) → n ≤ i → limits n (4 + i) ≡ (neg_ℤ largest, largest)
+value_limits : (n i : ℕ) → n ≤ i → limits n (4 + i) ≡ from_to (neg_ℤ largest) largest
 value_limits n i h = grind (arith, nat_tests)
 
 module _ (ns : List ℤ) (written : Written ns) where
@@ -44,7 +47,7 @@ module _ (ns : List ℤ) (written : Written ns) where
   weights_fit i h =
       let c = written.0 in
       let few : i < columns_of (length ns) = omega (arith, weights_length) in
-      let P : ℤ × ℤ → Type 0 = λ t. Between t.0 t.1 (get_or ns (4 + i) (pos 0)) in
+      let P : Interval → Type 0 = λ a. Between a.low a.high (get_or ns (4 + i) (pos 0)) in
       rw (get_or-take (columns_of (length ns)) (drop 4 ns) i (pos 0) few, get_or-drop 4 ns i (pos 0))
       (subst P (weight_limits (columns_of (length ns)) i few) (at (4 + i) (omega arith)))
 
@@ -53,7 +56,7 @@ module _ (ns : List ℤ) (written : Written ns) where
       let n = columns_of (length ns) in
       let c = written.0 in
       let few : i < n = omega (arith, values_length) in
-      let P : ℤ × ℤ → Type 0 = λ t. Between t.0 t.1 (get_or ns (4 + (n + i)) (pos 0)) in
+      let P : Interval → Type 0 = λ a. Between a.low a.high (get_or ns (4 + (n + i)) (pos 0)) in
       let moved : 4 + n + i ≡ 4 + (n + i) = omega arith in
       rw (get_or-drop (4 + n) ns i (pos 0), moved) (subst P (value_limits n (n + i) (omega arith)) (at (4 + (n + i)) (omega arith)))
 
@@ -72,3 +75,8 @@ module _ (ns : List ℤ) (written : Written ns) where
         activations = All-map (λ a. ActivationEnds a.low a.high) (spread e) (values_of ns)
             (All-weaker InRange _ (λ x h. value_ends e x value_distance_fits h) (values_of ns) (All-from_get_or InRange (values_of ns) (pos 0) values_fit));
       }
+
+-- the weights and the values, as they lie behind the first four numbers
+pub halves : (ns : List ℤ) (n : ℕ) → n ≡ columns_of (length ns)
+    → (take n (take (length ns - 4) (drop 4 ns)) ≡ weights_of ns) × (drop n (take (length ns - 4) (drop 4 ns)) ≡ values_of ns)
+halves ns n is = rw (take_rest ns 4, is) (refl, drop-drop (columns_of (length ns)) 4 ns)

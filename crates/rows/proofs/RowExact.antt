@@ -6,9 +6,9 @@ use borrow.Author.Differences.{ints}
 use Rattle.std.proofs.lemmas.List.Elements.{All-head, All-tail}
 use Rattle.rounding.specs.Numbers.{Weight}
 use Rattle.rounding.proofs.Roundings.{floor_one, ceiling_one}
-use Rattle.bounds.specs.Kinds.{Kind, Running, begun, added, WeightEnds, ActivationEnds}
+use Rattle.bounds.specs.Kinds.{Kind, KindLaws, Meanings, Running, begun, added, WeightEnds, ActivationEnds}
 use Rattle.rounding.specs.declared.interval.Interval.{Interval}
-use Rattle.bounds.specs.EndsLaws.{interval}
+use Rattle.rounding.specs.Intervals.{from_to}
 use Rattle.rows.specs.Sums.{Activations, spread, summed}
 use Rattle.rows.specs.Copies.{Pairs, none, more, dot}
 use Rattle.rows.specs.Claims.{RowExact}
@@ -45,11 +45,14 @@ module _ (k : Kind) where
       let i = summed_points ws p (All-tail Activation e es ha) (All-tail Weight w ws hw) (added h (omega arith) a b (weight_ends 0 w (omega arith) hh) e.low e.high ee) (omega arith) (x +ℤ w *ℤ z) (ap m.sum_low same ∙ r.0) (ap m.sum_high same ∙ r.1) in
       (i.0 ∙ +ℤ_assoc x (w *ℤ z) (dot ws zs), i.1 ∙ +ℤ_assoc x (w *ℤ z) (dot ws zs))
 
-  pub row_exact : RowExact k.means
-  row_exact ws xs b r =
+  exact : RowExact k.means
+  exact ws xs b r =
       let i = summed_points ws (spread_points xs) r.activations r.weights begun (omega (arith, r.few)) (pos 0) k.laws.starts_low k.laws.starts_high in
       let e : (s : ℤ) → s ≡ pos 0 +ℤ dot ws xs → s +ℤ b *ℤ pos 1 ≡ dot ws xs +ℤ b = λ s h. ap₂ ◌+ℤ◌ (h ∙ +ℤ_idl (dot ws xs)) (mul_one b) in
-      ap₂ interval (floor_one _ ∙ e _ i.0) (ceiling_one _ ∙ e _ i.1)
+      ap₂ from_to (floor_one _ ∙ e _ i.0) (ceiling_one _ ∙ e _ i.1)
     where
       mul_one : (b : ℤ) → b *ℤ pos 1 ≡ b
       mul_one b = omega (arith, ints)
+
+pub row_exact : (m : Meanings) → KindLaws m → RowExact m
+row_exact m laws = exact (record { means = m; laws = laws })

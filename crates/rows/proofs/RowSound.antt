@@ -8,7 +8,7 @@ use Rattle.std.proofs.lemmas.List.Elements.{All-head, All-tail}
 use Rattle.rounding.specs.Numbers.{Near, Over, Weight, per_unit, floor_over, ceiling_over}
 use Rattle.rounding.proofs.Ring.{linear, ≤ℤ_trans, mul_pos_le, mul_add_ℤ, mul_sub_ℤ, mul_assoc_ℤ, one_mul_ℤ}
 use Rattle.rounding.proofs.Roundings.{per_unit_positive, floor_is, ceiling_is, floor_keeps, ceiling_keeps, cancel_le}
-use Rattle.bounds.specs.Kinds.{Kind, Running, begun, added, WeightEnds, ActivationEnds}
+use Rattle.bounds.specs.Kinds.{Kind, KindLaws, Meanings, Running, begun, added, WeightEnds, ActivationEnds}
 use Rattle.rounding.specs.declared.interval.Interval.{Interval}
 use Rattle.bounds.specs.Sizes.{weight_is_activation}
 use Rattle.rows.specs.Sums.{Activations, RowLimits, summed, row_bounds}
@@ -118,7 +118,8 @@ pub row_ordered : (k : Kind) (F e_w : ℕ) (vs : List Interval) (ws : List ℤ) 
 row_ordered k F e_w vs ws b r =
     closed_ordered F _ _ b (running_ordered k (summed_running k e_w r.distance ws vs begun (omega (arith, r.few)) r.weights r.activations).1)
 
-pub row_sound : (k : Kind) → RowSound k.means
-row_sound k F e_w vs ws b r q fine zs held h c =
+pub row_sound : (m : Meanings) → KindLaws m → RowSound m
+row_sound m laws F e_w vs ws b r q fine zs held h c =
+    let k : Kind = record { means = m; laws = laws } in
     let s = summed_holds k e_w r.distance q fine c.near held begun (omega (arith, r.few)) r.weights r.activations (pos 0) (starts_over k (q * q)) in
     rw c.numerator (closed_holds (q * q) F _ _ b (dot c.weights zs) (rw (+ℤ_idl (dot c.weights zs)) at s))

@@ -1,5 +1,6 @@
 -- A row as a list of numbers: the fraction bits, the distance of the weights, the distance of the values, the bias, then the weights, then as many values.
-use Rattle.std.specs.Prelude.{◌≡◌, ℕ, ◌+◌, ◌-◌, ◌*◌, ◌/◌, ◌<◌, ◌≤◌, cond, List, map, length, take, drop, ℤ, pos, neg_ℤ, ◌==◌, nat_lt, slice_index_or, unsigned_abs}
+use Rattle.std.specs.Prelude.{◌≡◌, ℕ, ◌+◌, ◌-◌, ◌*◌, ◌/◌, ◌<◌, ◌≤◌, List, map, length, take, drop, ℤ, pos, neg_ℤ, ◌==◌, nat_lt, if◌then◌else◌, slice_index_or, unsigned_abs}
+use Rattle.rounding.specs.Intervals.{from_to}
 use Rattle.rounding.specs.Numbers.{Between, largest}
 use Rattle.bounds.specs.Kinds.{Meanings}
 use Rattle.rounding.specs.declared.interval.Interval.{Interval}
@@ -15,18 +16,19 @@ columns_of n = (n - 4) / 2
 abbrev pub Counted : ℕ → Type 0
 Counted n = (1 ≤ columns_of n) × (columns_of n ≤ 64) × (n ≡ 4 + 2 * columns_of n)
 
--- the least and the greatest number that may stand at a place
-abbrev pub limits : (columns place : ℕ) → ℤ × ℤ
+-- the numbers that may stand at a place
+abbrev pub limits : (columns place : ℕ) → Interval
 limits columns place =
-    cond (place == 0) (pos 0, pos 16)
-    (cond (place == 1) (pos 0, pos 32767)
-    (cond (place == 2) (pos 0, pos 65535)
-    (cond (place == 3) (neg_ℤ largest, largest)
-    (cond (nat_lt place (4 + columns)) (neg_ℤ (pos 32768), pos 32767) (neg_ℤ largest, largest)))))
+    if place == 0 then from_to (pos 0) (pos 16)
+    else if place == 1 then from_to (pos 0) (pos 32767)
+    else if place == 2 then from_to (pos 0) (pos 65535)
+    else if place == 3 then from_to (neg_ℤ largest) largest
+    else if nat_lt place (4 + columns) then from_to (neg_ℤ (pos 32768)) (pos 32767)
+    else from_to (neg_ℤ largest) largest
 
 -- the number at a place is within its limits
 abbrev pub FitsAt : List ℤ → ℕ → Type 0
-FitsAt ns i = Between (limits (columns_of (length ns)) i).0 (limits (columns_of (length ns)) i).1 (slice_index_or ns i (pos 0))
+FitsAt ns i = let a = limits (columns_of (length ns)) i in Between a.low a.high (slice_index_or ns i (pos 0))
 
 -- every number is within its limits
 abbrev pub AllFit : List ℤ → Type 0

@@ -1,19 +1,19 @@
 ghost use Rattle.std.specs.Prelude.{◌≡◌, ℕ, ◌<◌, ◌≤◌, length, pos, slice_index_or};
 ghost use Rattle.rounding.specs.Numbers.{InRange, Weight};
 
-// A row with the values that its weights are multiplied by.
+use rounding::scale::Scale;
+
+/// A row with the values that its weights are multiplied by.
 #[derive(Clone, Copy)]
 pub struct Row<'a> {
-    // the fraction bits
-    pub bits: u32,
-    // how far a weight may be off
+    pub scale: Scale,
+    /// how far a weight may be off
     pub weight_distance: u16,
-    // how far a value may be off
+    /// how far a value may be off
     pub value_distance: u16,
     pub bias: i64,
     pub weights: &'a [i64],
     pub values: &'a [i64],
-    ghost few_bits: { bits ≤ 16 },
     ghost near: { weight_distance ≤ 32767 },
     ghost bias_fits: { InRange bias },
     ghost few: { length weights.now ≤ 64 },

@@ -12,6 +12,7 @@ use Rattle.storetrial.specs.declared.action.Action.TheVariants.{Read, Holds, Wri
 use Rattle.storetrial.specs.declared.action.Outcome.{Outcome}
 use Rattle.storetrial.specs.declared.action.Outcome.TheVariants.{Entry, Answer}
 use Rattle.storetrial.specs.declared.five.Five.{Five}
+use Rattle.storetrial.specs.declared.trial.Opening.{Opening}
 use Rattle.storetrial.specs.declared.trial.Trial.{Trial}
 
 -- the outcome is what the store means by it; only a write can alter the meaning
@@ -54,26 +55,32 @@ apart_from p m = differing m.entries p.entries
 
 -- a number of each
 abbrev pub of_each : (Meaning → ℕ) → Five Meaning → Five ℕ
-of_each f m = record { plain = f m.plain; packed = f m.packed; over_plain = f m.over_plain; over_packed = f m.over_packed; twice = f m.twice }
+of_each f m = record {
+  plain = f m.plain;
+  packed = f m.packed;
+  over_plain = f m.over_plain;
+  over_packed = f m.over_packed;
+  twice = f m.twice;
+}
 
 -- a plain store of two words to a byte, all 0
 abbrev pub zeros : ℕ → Meaning
 zeros bytes = plain_meaning (take most_places (replicate (bytes * 2) (pos 0)))
 
 -- a packed store of so many bytes with one value
-abbrev pub filled : (bytes shift fill : ℕ) → Meaning
-filled bytes shift fill = packed_meaning (min shift most_shift) (take most_bytes (replicate bytes fill))
+abbrev pub filled : Opening → Meaning
+filled o = packed_meaning (min o.shift most_shift) (take most_bytes (replicate o.bytes o.fill))
 
 -- an overlay with nothing in its table
 abbrev pub covered : Meaning → Meaning
 covered = over_meaning (replicate table_size None)
 
 -- what the five mean at first
-abbrev pub opened : (bytes shift fill : ℕ) → Five Meaning
-opened bytes shift fill = record {
-  plain = zeros bytes;
-  packed = filled bytes shift fill;
-  over_plain = covered (zeros bytes);
-  over_packed = covered (filled bytes shift fill);
-  twice = covered (covered (filled bytes shift fill));
+abbrev pub opened : Opening → Five Meaning
+opened o = record {
+  plain = zeros o.bytes;
+  packed = filled o;
+  over_plain = covered (zeros o.bytes);
+  over_packed = covered (filled o);
+  twice = covered (covered (filled o));
 }

@@ -1,73 +1,91 @@
-use crate::action::Action;
-use std::fmt;
-use std::str::FromStr;
+ghost use Rattle.std.specs.Prelude.{◌≡◌, ◌+◌, ◌-◌, ◌^◌, min, IfErr};
 
-// What a line asks for.
-#[derive(Clone, Copy)]
+use crate::action::Action;
+use crate::trial::Opening;
+use std::str::{FromStr, SplitAsciiWhitespace};
+use thiserror::Error;
+
+/// What a line asks for.
+#[derive(Clone, Copy, Debug, PartialEq, Eq)]
 pub enum Command {
-    // new stores: so many bytes, each with this value, under this shift, and two words to a byte, all 0
-    Open(u16, u32, u8),
-    // the same to each store
+    /// New stores in the place of those that are there.
+    Open(Opening),
+    /// The same to each store.
     Ask(Action),
-    // how many places differ from the plain store
+    /// How many places differ from the plain store.
     Differ,
 }
 
-// Why a line is no command.
-#[derive(Drop)]
+/// Why a line is no command.
+#[derive(Clone, Copy, Debug, PartialEq, Eq, Error)]
 pub enum LineFault {
-    // there is no such command
+    /// There is no such command.
+    #[error("no such command")]
     Name,
-    // this word, counted from 1, is missing or outside its limits
+    /// This word, counted from 1, is missing or outside its limits.
+    #[error("word {0} is missing or outside its limits")]
     Word(usize),
-    // there are more words than the command takes
+    /// There are more words than the command takes.
+    #[error("too many words")]
     Extra,
 }
 
-impl fmt::Display for LineFault {
-    fn fmt<W: fmt::Write>(&self, f: &mut fmt::Formatter<W>) -> fmt::Result {
-        match self {
-            LineFault::Name => write!(f, "no such command"),
-            LineFault::Word(k) => write!(f, "word {k} is missing or outside its limits"),
-            LineFault::Extra => write!(f, "too many words"),
+/// The words of a line that are still to be read.
+#[derive(Drop)]
+struct Words<'a> {
+    rest: SplitAsciiWhitespace<'a>,
+    /// How many words were asked for.
+    taken: usize,
+}
+
+impl<'a> Words<'a> {
+    fn new(line: &'a str) -> Self {
+        Words {
+            rest: line.split_ascii_whitespace(),
+            taken: 0,
         }
     }
-}
 
-// The number that a word is.
-fn number<T: FromStr>(word: Option<&str>, k: usize) -> Result<T, LineFault>
-where
-    T::Err: Drop,
-{
-    let Some(word) = word else {
-        return Err(LineFault::Word(k));
-    };
-    match word.parse::<T>() {
-        Ok(n) => Ok(n),
-        Err(_) => Err(LineFault::Word(k)),
+    /// The next word, if there is one.
+    fn next_word(&mut self) -> Option<&'a str>
+        ensures { self.new.taken ≡ min (self.old.taken + 1) (2 ^ 64 - 1) }
+    {
+        self.taken = self.taken.saturating_add(1);
+        self.rest.next()
+    }
+
+    /// The number that the next word is.
+    fn number<T: FromStr>(&mut self) -> Result<T, LineFault>
+    where
+        T::Err: Drop,
+        ensures { IfErr result (λ fault. fault ≡ LineFault.Word self.new.taken) }
+    {
+        self.next_word()
+            .and_then(|word| word.parse().ok())
+            .ok_or(LineFault::Word(self.taken))
     }
 }
 
-// The command that a line is, or none where it has no words.
-pub(crate) fn parse(line: &str) -> Result<Option<Command>, LineFault> {
-    let mut words = line.split_ascii_whitespace();
-    let Some(name) = words.next() else {
-        return Ok(None);
-    };
-    let command = match name {
-        "open" => Command::Open(
-            number(words.next(), 2)?,
-            number(words.next(), 3)?,
-            number(words.next(), 4)?,
-        ),
-        "read" => Command::Ask(Action::Read(number(words.next(), 2)?)),
-        "holds" => Command::Ask(Action::Holds(number(words.next(), 2)?, number(words.next(), 3)?)),
-        "write" => Command::Ask(Action::Write(number(words.next(), 2)?, number(words.next(), 3)?)),
-        "differ" => Command::Differ,
-        _ => return Err(LineFault::Name),
-    };
-    if words.next().is_some() {
-        return Err(LineFault::Extra);
+impl FromStr for Command {
+    type Err = LineFault;
+
+    fn from_str(line: &str) -> Result<Self, LineFault> {
+        let mut words = Words::new(line);
+        let command = match words.next_word().ok_or(LineFault::Name)? {
+            "open" => Command::Open(Opening {
+                bytes: words.number()?,
+                shift: words.number()?,
+                fill: words.number()?,
+            }),
+            "read" => Command::Ask(Action::Read(words.number()?)),
+            "holds" => Command::Ask(Action::Holds(words.number()?, words.number()?)),
+            "write" => Command::Ask(Action::Write(words.number()?, words.number()?)),
+            "differ" => Command::Differ,
+            _ => return Err(LineFault::Name),
+        };
+        if words.next_word().is_some() {
+            return Err(LineFault::Extra);
+        }
+        Ok(command)
     }
-    Ok(Some(command))
 }

@@ -1,7 +1,7 @@
 use std::fmt;
 
-// One thing for each of the five stores.
-#[derive(Drop)]
+/// One thing for each of the five stores.
+#[derive(Clone, Copy, Debug, PartialEq, Eq)]
 pub struct Five<T> {
     pub plain: T,
     pub packed: T,
@@ -12,11 +12,13 @@ pub struct Five<T> {
 
 impl<T: fmt::Display> fmt::Display for Five<T> {
     fn fmt<W: fmt::Write>(&self, f: &mut fmt::Formatter<W>) -> fmt::Result {
-        let plain = &self.plain;
-        let packed = &self.packed;
-        let over_plain = &self.over_plain;
-        let over_packed = &self.over_packed;
-        let twice = &self.twice;
+        let Five {
+            plain,
+            packed,
+            over_plain,
+            over_packed,
+            twice,
+        } = self;
         write!(
             f,
             "{plain} | {packed} | {over_plain} | {over_packed} | {twice}"

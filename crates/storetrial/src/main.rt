@@ -1,46 +1,38 @@
-// Does the same to five stores, line by line of standard input, and prints what each answers.
+//! Does the same to five stores, line by line of standard input, and prints what each answers.
 #![tactic(auto)]
 
-mod act;
 mod action;
 mod command;
 mod five;
 mod trial;
 
-use command::{Command, parse};
+use command::Command;
 use std::io;
-use trial::Trial;
+use trial::{Opening, Trial};
 
-// Does what a line asks for, and prints what came of it.
-fn obey(rt: &HostRuntime, trial: &mut Trial, command: Command) -> io::Result<()> {
+/// Does what a line asks for, and prints what came of it.
+fn obey(rt: &(impl Print + AllocGlobal), trial: &mut Trial, command: Command) -> io::Result<()> {
     match command {
-        Command::Open(bytes, shift, fill) => {
-            *trial = Trial::open(rt.alloc(), bytes, shift, fill)?;
-            let places = trial.sizes();
-            println!(rt; "{places}")
+        Command::Open(opening) => {
+            *trial = Trial::open(rt.alloc(), opening)?;
+            println!(rt; "{}", trial.sizes())
         }
-        Command::Ask(action) => {
-            let answers = trial.ask(action);
-            println!(rt; "{answers}")
-        }
-        Command::Differ => {
-            let counts = trial.differ();
-            println!(rt; "{counts}")
-        }
+        Command::Ask(action) => println!(rt; "{}", trial.ask(action)),
+        Command::Differ => println!(rt; "{}", trial.differ()),
     }
 }
 
 fn main(rt: HostRuntime) -> io::Result<()> {
-    let mut trial = Trial::open(rt.alloc(), 0, 0, 0)?;
+    let mut trial = Trial::open(rt.alloc(), Opening::default())?;
     for line in rt.lines(rt.alloc()) {
         let line = line?;
-        match parse(line.as_str()) {
-            Ok(None) => {}
-            Ok(Some(command)) => {
-                print!(rt; "{line} -> ")?;
-                obey(&rt, &mut trial, command)?;
-            }
-            Err(fault) => println!(rt; "{line} -> {fault}")?,
+        if line.trim_ascii().is_empty() {
+            continue;
+        }
+        print!(rt; "{line} -> ")?;
+        match line.parse::<Command>() {
+            Ok(command) => obey(&rt, &mut trial, command)?,
+            Err(fault) => println!(rt; "{fault}")?,
         }
     }
     Ok(())

@@ -1,7 +1,6 @@
 ghost use Rattle.std.specs.Prelude.{◌≡◌, IfOk};
 ghost use Rattle.storetrial.specs.Trials.{Asked, apart_from, filled, meanings, of_each, of_packed, of_plain, opened, size_of, zeros};
 
-use crate::act::act;
 use crate::action::{Action, Outcome};
 use crate::five::Five;
 use std::alloc::{AllocError, Global};
@@ -11,7 +10,16 @@ use stores::packed::Packed;
 use stores::plain::Plain;
 use stores::store::Store;
 
-// Five stores with the same places, to which the same is done.
+/// What new stores are made of: packed ones of so many bytes with the value `fill`, under the
+/// shift, and plain ones of two words to a byte, all 0.
+#[derive(Clone, Copy, Debug, Default, PartialEq, Eq)]
+pub struct Opening {
+    pub bytes: u16,
+    pub shift: u32,
+    pub fill: u8,
+}
+
+/// Five stores with the same places, to which the same is done.
 #[derive(Drop)]
 pub(crate) struct Trial {
     plain: Plain,
@@ -21,50 +29,50 @@ pub(crate) struct Trial {
     twice: Overlay<Overlay<Packed>>,
 }
 
-// A plain store of two words to a byte, all 0.
-fn zeros(heap: Global, bytes: u16) -> Result<Plain, AllocError>
+/// A plain store of two words to a byte, all 0.
+fn zeros(alloc: Global, bytes: u16) -> Result<Plain, AllocError>
     ensures { IfOk result (λ s. of_plain s ≡ zeros bytes) }
 {
     let words = usize::from(bytes) * 2;
-    Ok(Plain::new(vec![in heap; 0i16; words]?))
+    Ok(Plain::new(vec![in alloc; 0i16; words]?))
 }
 
-// A packed store of so many bytes with the value `fill`, under the shift.
-fn filled(heap: Global, bytes: u16, shift: u32, fill: u8) -> Result<Packed, AllocError>
-    ensures { IfOk result (λ s. of_packed s ≡ filled bytes shift fill) }
+/// A packed store of so many bytes with the value `fill`, under the shift.
+fn filled(alloc: Global, opening: Opening) -> Result<Packed, AllocError>
+    ensures { IfOk result (λ s. of_packed s ≡ filled opening) }
 {
-    Ok(Packed::new(vec![in heap; fill; usize::from(bytes)]?, shift))
+    let bytes = vec![in alloc; opening.fill; usize::from(opening.bytes)]?;
+    Ok(Packed::new(bytes, opening.shift))
 }
 
 impl Trial {
-    // New stores: packed ones of so many bytes with the value `fill`, and plain ones of two words to a byte, all 0.
-    pub(crate) fn open(heap: Global, bytes: u16, shift: u32, fill: u8) -> Result<Trial, AllocError>
-        ensures { IfOk result (λ t. meanings t ≡ opened bytes shift fill) }
+    /// New stores.
+    pub(crate) fn open(alloc: Global, opening: Opening) -> Result<Trial, AllocError>
+        ensures { IfOk result (λ t. meanings t ≡ opened opening) }
     {
-        let once = Overlay::new(filled(heap, bytes, shift, fill)?);
         Ok(Trial {
-            plain: zeros(heap, bytes)?,
-            packed: filled(heap, bytes, shift, fill)?,
-            over_plain: Overlay::new(zeros(heap, bytes)?),
-            over_packed: Overlay::new(filled(heap, bytes, shift, fill)?),
-            twice: Overlay::new(once),
+            plain: zeros(alloc, opening.bytes)?,
+            packed: filled(alloc, opening)?,
+            over_plain: Overlay::new(zeros(alloc, opening.bytes)?),
+            over_packed: Overlay::new(filled(alloc, opening)?),
+            twice: Overlay::new(Overlay::new(filled(alloc, opening)?)),
         })
     }
 
-    // Asks the same of each store.
+    /// Asks the same of each store.
     pub(crate) fn ask(&mut self, action: Action) -> Five<Outcome>
         ensures { Asked (meanings self.old) action result (meanings self.new) }
     {
         Five {
-            plain: act(&mut self.plain, action),
-            packed: act(&mut self.packed, action),
-            over_plain: act(&mut self.over_plain, action),
-            over_packed: act(&mut self.over_packed, action),
-            twice: act(&mut self.twice, action),
+            plain: action.act(&mut self.plain),
+            packed: action.act(&mut self.packed),
+            over_plain: action.act(&mut self.over_plain),
+            over_packed: action.act(&mut self.over_packed),
+            twice: action.act(&mut self.twice),
         }
     }
 
-    // How many places of each store differ from the plain one's.
+    /// How many places of each store differ from the plain one's.
     pub(crate) fn differ(&self) -> Five<usize>
         ensures { result ≡ of_each (apart_from (meanings self.now).plain) (meanings self.now) }
     {
@@ -77,7 +85,7 @@ impl Trial {
         }
     }
 
-    // How many places each store has.
+    /// How many places each store has.
     pub(crate) fn sizes(&self) -> Five<usize>
         ensures { result ≡ of_each size_of (meanings self.now) }
     {

@@ -1,16 +1,16 @@
-use Rattle.std.proofs.Common.{get_or, ℤ, pos, ap, ◌∙◌, subst, arith, w64, SFits, rules, below_more}
-use Rattle.std.proofs.lemmas.Int.{ints}
+use Rattle.std.proofs.Common.{ap, ◌∙◌, get_or, pos, subst, w64, SFits, rules, below_more}
+use Rattle.std.proofs.lemmas.Int.{to_z-of_z}
 use Rattle.rounding.specs.Numbers.{Between}
+use Rattle.rounding.specs.declared.interval.Interval.{Interval}
 use Rattle.rows.specs.Numbers.{limits}
 use Rattle.rows.proofs.reading.first_outside.Goals as goal
 
-pub loop-i-preserved : goal.loop-i-preserved
-loop-i-preserved c =
-    let i = c.loop-i.i in
-    let x = get_or c.args.numbers.now i (pos 0) in
-    let e = c.limits_at-low.ensures ∙ ap (λ n. limits n i) c.requires.columns in
-    let fx : SFits w64 x = search rules in
-    let fl : SFits w64 c.limits_at-low.result.0 = search rules in
-    let fh : SFits w64 c.limits_at-low.result.1 = search rules in
-    let P : ℤ × ℤ → Type 0 = λ t. Between t.0 t.1 x in
-    below_more _ _ c.loop-i.invariant (subst P e (omega (arith, ints)))
+pub loop-place-preserved : goal.loop-place-preserved
+loop-place-preserved c =
+    let place = c.loop-place.place in
+    let number = get_or c.args.numbers.now place (pos 0) in
+    let allowed = c.limits_at.ensures ∙ ap (λ n. limits n place) c.requires.columns in
+    let fits : SFits w64 number = search rules in
+    let P : Interval → Type 0 = λ a. Between a.low a.high number in
+    let within = c.contains.ensures.0 (search rules) in
+    below_more _ _ c.loop-place.invariant (subst P allowed (simp (to_z-of_z w64 _ fits) at within))

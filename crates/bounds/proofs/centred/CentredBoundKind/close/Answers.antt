@@ -1,19 +1,12 @@
-use Rattle.std.proofs.Common.{arith}
-use Rattle.std.proofs.lemmas.Int.{ints}
 use Rattle.bounds.specs.CentredLaws.{centred_laws, sum_parts}
 use Rattle.bounds.proofs.centred.CentredBoundKind.close.Goals as goal
 
 pub ends-requires : goal.ends-requires
 ends-requires c = sum_parts c.requires.running.2
 
-pub outward-requires : goal.outward-requires
-outward-requires c =
-    let run = c.requires.running in
-    record {
-      ends = (
-        rw c.ends.ensures.low (centred_laws.sum_low_sized run.0 c.args.whole run.2),
-        rw c.ends.ensures.high (centred_laws.sum_high_sized run.0 c.args.whole run.2),
-      );
-      bias = omega (arith, ints);
-      bits = omega arith;
-    }
+pub outward-requires-clause-ends : goal.outward-requires-clause-ends
+outward-requires-clause-ends c =
+    let run = c.requires.running in (
+      rw c.ends.ensures.low (centred_laws.sum_low_sized run.0 c.args.whole run.2),
+      rw c.ends.ensures.high (centred_laws.sum_high_sized run.0 c.args.whole run.2),
+    )

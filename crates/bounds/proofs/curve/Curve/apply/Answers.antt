@@ -10,8 +10,8 @@ use Rattle.bounds.proofs.curve.Curve.apply.Goals as goal
 clipped : (m p r : ℤ) → int_min (int_max m p) r ≡ curve_at (Clip p r) 1 m
 clipped m p r = rw (one_mul_ℤ p, one_mul_ℤ r) refl
 
-pub returns-in-Clip : goal.returns-in-Clip
-returns-in-Clip c =
+pub returns-in-Clip-clause-value : goal.returns-in-Clip-clause-value
+returns-in-Clip-clause-value c =
     let p = c.in-Clip.p in
     let r = c.in-Clip.r in
     let m = c.args.m in

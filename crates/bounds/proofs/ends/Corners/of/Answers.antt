@@ -3,7 +3,7 @@ use Rattle.rounding.specs.Numbers.{Sized}
 use Rattle.rounding.proofs.Machine.{Is, plain, product, fits, back, sized_more}
 use Rattle.bounds.specs.Kinds.{weight_reach, activation_reach}
 use Rattle.bounds.specs.Sizes.{product_size}
-use Rattle.bounds.proofs.ends.corner_products.Goals as goal
+use Rattle.bounds.proofs.ends.Corners.of.Goals as goal
 
 -- the machine's product of two ends
 of_ends : {x y : ℤ} → Sized weight_reach x → Sized activation_reach y → Is product_size (to_z w64 (of_z w64 x) *ℤ to_z w64 (of_z w64 y)) (x *ℤ y)

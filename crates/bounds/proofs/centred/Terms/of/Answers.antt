@@ -3,7 +3,7 @@ use Rattle.rounding.specs.Numbers.{Sized}
 use Rattle.rounding.proofs.Machine.{Is, plain, product, fits, back, sized_more}
 use Rattle.bounds.specs.Centred.{abs}
 use Rattle.bounds.specs.CentredLaws.{abs_sized}
-use Rattle.bounds.proofs.centred.products.Goals as goal
+use Rattle.bounds.proofs.centred.Terms.of.Goals as goal
 
 -- the machine's product of two parts
 parts : {m n : ℕ} {x y : ℤ} → Sized m x → Sized n y → m < 2 ^ 63 → n < 2 ^ 63 → Is (m * n) (to_z w64 (of_z w64 x) *ℤ to_z w64 (of_z w64 y)) (x *ℤ y)
