@@ -1,4 +1,4 @@
-ghost use Rattle.std.specs.Prelude.{◌≡◌, ◌≤◌, length, MatchOption, MatchResult};
+ghost use Rattle.std.specs.Prelude.{◌≡◌, length, MatchOption, MatchResult};
 ghost use Rattle.rows.specs.Claims.{RowSound, RowExact, RowCopied};
 ghost use Rattle.rows.specs.Numbers.{limits, Counted, columns_of, AllFit, FirstOutside, Refused, Written, WrittenLimits, written_bounds};
 ghost use Rattle.rows.specs.Reading.{IsRowOf, Reads};
@@ -10,67 +10,76 @@ use rounding::interval::Interval;
 use rounding::scale::Scale;
 use rounding::{RANGE, WEIGHTS};
 
-// How many columns a row of so many numbers has, if any row has so many.
-fn columns(count: usize) -> Option<usize>
-    ensures { MatchOption result (Counted count → ⊥) (λ n. Counted count × (n ≡ columns_of count)) }
-{
-    let columns = count.checked_sub(4)? / 2;
-    let counted = count == 4 + 2 * columns && (1..=64).contains(&columns);
-    counted.then_some(columns)
+// Numbers of which there are as many as a row has: four, and 1 to 64 weights and as many values.
+#[derive(Clone, Copy)]
+struct Listed<'a> {
+    numbers: &'a [i64],
+    columns: usize,
+    ghost counted: { Counted (length numbers.now) },
+    ghost split: { columns ≡ columns_of (length numbers.now) },
 }
 
-// The least and the greatest number that may stand at a place of a row with so many columns.
-fn limits_at(columns: usize, place: usize) -> Interval
-    requires { columns ≤ 64 }
-    ensures { result ≡ limits columns place }
-{
-    match place {
-        0 => Interval { low: 0, high: 16 },
-        1 => Interval {
-            low: 0,
-            high: 32_767,
-        },
-        2 => Interval {
-            low: 0,
-            high: 65_535,
-        },
-        3 => RANGE,
-        _ if place < 4 + columns => WEIGHTS,
-        _ => RANGE,
+impl<'a> Listed<'a> {
+    // The numbers as those of a row, if there are as many.
+    fn new(numbers: &'a [i64]) -> Option<Self>
+        ensures { MatchOption result (Counted (length numbers.now) → ⊥) (λ listed. listed.numbers.now ≡ numbers.now) }
+    {
+        let columns = numbers.len().checked_sub(4)? / 2;
+        if numbers.len() != 4 + 2 * columns || !(1..=64).contains(&columns) {
+            return None;
+        }
+        Some(Listed { numbers, columns })
     }
-}
 
-// The place of the first number outside its limits.
-fn first_outside(numbers: &[i64], columns: usize) -> Option<usize>
-    requires few { columns ≤ 64 }
-    requires columns { columns ≡ columns_of (length numbers.now) }
-    ensures { MatchOption result (AllFit numbers.now) (FirstOutside numbers.now) }
-{
-    for (place, &number) in numbers.iter().enumerate() {
-        if !limits_at(columns, place).contains(number) {
-            return Some(place);
+    // The numbers that may stand at a place.
+    fn limits_at(&self, place: usize) -> Interval
+        ensures { result ≡ limits self.now.columns place }
+    {
+        match place {
+            0 => Interval { low: 0, high: 16 },
+            1 => Interval {
+                low: 0,
+                high: 32_767,
+            },
+            2 => Interval {
+                low: 0,
+                high: 65_535,
+            },
+            3 => RANGE,
+            _ if place < 4 + self.columns => WEIGHTS,
+            _ => RANGE,
         }
     }
-    None
-}
 
-// The row that is written in these numbers.
-fn row_of(numbers: &[i64], columns: usize) -> Row<'_>
-    requires columns { columns ≡ columns_of (length numbers.now) }
-    requires written { Written numbers.now }
-    ensures { IsRowOf numbers.now result }
-{
-    let [bits, weight_distance, value_distance, bias, rest @ ..] = numbers else {
-        unreachable!()
-    };
-    let (weights, values) = rest.split_at(columns);
-    Row {
-        scale: Scale { bits: *bits as u32 },
-        weight_distance: *weight_distance as u16,
-        value_distance: *value_distance as u16,
-        bias: *bias,
-        weights,
-        values,
+    // The place of the first number outside its limits.
+    fn first_outside(&self) -> Option<usize>
+        ensures { MatchOption result (AllFit self.now.numbers.now) (FirstOutside self.now.numbers.now) }
+    {
+        for (place, &number) in self.numbers.iter().enumerate() {
+            if !self.limits_at(place).contains(number) {
+                return Some(place);
+            }
+        }
+        None
+    }
+
+    // The row that is written in the numbers.
+    fn row(&self) -> Row<'a>
+        requires { AllFit self.now.numbers.now }
+        ensures { IsRowOf self.now.numbers.now result }
+    {
+        let [bits, weight_distance, value_distance, bias, rest @ ..] = self.numbers else {
+            unreachable!()
+        };
+        let (weights, values) = rest.split_at(self.columns);
+        Row {
+            scale: Scale { bits: *bits as u32 },
+            weight_distance: *weight_distance as u16,
+            value_distance: *value_distance as u16,
+            bias: *bias,
+            weights,
+            values,
+        }
     }
 }
 
@@ -82,10 +91,10 @@ impl<'a> TryFrom<&'a [i64]> for Row<'a> {
     ghost try_from_gives = { λ numbers row. Reads numbers.now row };
 
     fn try_from(numbers: &'a [i64]) -> Result<Self, RowFault> {
-        let columns = columns(numbers.len()).ok_or(RowFault::Count)?;
-        match first_outside(numbers, columns) {
+        let listed = Listed::new(numbers).ok_or(RowFault::Count)?;
+        match listed.first_outside() {
             Some(place) => Err(RowFault::Limit(place)),
-            None => Ok(row_of(numbers, columns)),
+            None => Ok(listed.row()),
         }
     }
 }
