@@ -1,65 +1,44 @@
 -- Counting the places at which two stores differ.
 -- Assumes nothing.
-use Rattle.std.proofs.Common.{◌≡◌, ℕ, zero, suc, ◌+◌, ◌<◌, ◌≤◌, max, Bool, true, false, cond, not, List, length, get_or, ℤ, pos, Some, None, Option, sym, refl, ap, ◌∙◌, ⊎_elim, add-zero, add-one, arith}
-use Rattle.std.proofs.lemmas.List.{ext_get_or}
-use Rattle.std.proofs.lemmas.Bool.Decides.{nat_tests, leb_tells}
-use Rattle.stores.specs.Shared.{same_equal, same_self}
-use Rattle.stores.specs.Differing.{alike, count_below, differing}
-use Rattle.stores.specs.Stores.{read_at, same}
-
--- one more number is tested: it passes, or it fails
-module _ (test : ℕ → Bool) (n : ℕ) {k m : ℕ} {b : Bool} (so_far : k ≡ count_below test n) (here : b ≡ test n) where
-  pub count_pass : b ≡ true → m ≡ k + 1 → m ≡ count_below test (n + 1)
-  count_pass t e = rw (add-one, sym here ∙ t) (e ∙ ap (λ j. j + 1) so_far)
-
-  pub count_fail : b ≡ false → m ≡ k → m ≡ count_below test (n + 1)
-  count_fail t e = rw (add-one, sym here ∙ t, add-zero) (e ∙ so_far)
-
-count_zero : (test : ℕ → Bool) (n : ℕ) → count_below test n ≡ 0 → (k : ℕ) → k < n → test k ≡ false
-count_zero test zero e k h = let z : ⊥ = omega arith in absurd z
-count_zero test (suc n) e k h =
-    ⊎_elim
-    (λ t. count_zero test n (omega arith) k t.1)
-    (λ t. let here : k ≡ n = omega arith in rw here (fails (test n) (omega arith)))
-    (leb_tells (suc k) n)
-  where
-    fails : (b : Bool) → cond b 1 0 ≤ 0 → b ≡ false
-    fails b e = grind arith
-
-count_none : (test : ℕ → Bool) (n : ℕ) → ((k : ℕ) → test k ≡ false) → count_below test n ≡ 0
-count_none test zero h = refl
-count_none test (suc n) h = let here = h n in let rest = count_none test n h in rw (here, rest) refl
-
-itself : (o : Option ℤ) → alike o o ≡ true
-itself None = refl
-itself (Some x) = same_self x
+use Rattle.std.proofs.Common.{◌≡◌, ◌∷◌, suc, ℕ, ◌<◌, ◌≤◌, max, Bool, true, false, cond, not, List, [], length, get_or, ℤ, Some, None, Option, sym, refl, ap, ◌∙◌, ⊎_elim, zero-add, arith}
+use Rattle.std.specs.List.{count_by, range_with_len}
+use Rattle.std.specs.Ordering.{int_eq}
+use Rattle.std.proofs.lemmas.Option.{none-some, slice_get_past}
+use Rattle.std.proofs.lemmas.List.FromFn.{length-range_with_len, get_or-range_with_len}
+use Rattle.std.proofs.lemmas.List.Sums.{get_or-le-sum_by}
+use Rattle.std.proofs.lemmas.Bool.Decides.{leb_tells, Decides-int_eq}
+use Rattle.stores.specs.Differing.{alike, differing}
+use Rattle.stores.specs.Stores.{read_at}
 
 agreed : (o u : Option ℤ) → not (alike o u) ≡ false → o ≡ u
 agreed None None h = refl
 agreed None (Some y) h = grind arith
 agreed (Some x) None h = grind arith
-agreed (Some x) (Some y) h = let s : same x y ≡ true = grind arith in ap Some (same_equal x y s)
+agreed (Some x) (Some y) h = let s : int_eq x y ≡ true = grind arith in ap Some ((Decides-int_eq x y).0 s)
 
-pub differing_same : (xs ys : List ℤ) → xs ≡ ys → differing xs ys ≡ 0
-differing_same xs ys e = rw (sym e) (count_none _ (max (length xs) (length xs)) (λ k. ap not (itself (read_at xs k))))
-
--- a list that reads alike is no longer
-no_longer : (xs ys : List ℤ) → ((p : ℕ) → p < length ys → read_at xs p ≡ read_at ys p) → length ys ≤ length xs
-no_longer xs ys h =
-    ⊎_elim
-    (λ t. t.1)
-    (λ t. absurd (apart xs ys t.1 (h (length xs) t.1)))
-    (leb_tells (length ys) (length xs))
+-- where none of the first n numbers passes, each fails
+count_zero : (test : ℕ → Bool) (n : ℕ) → count_by test (range_with_len 0 n) ≡ 0 → (k : ℕ) → k < n → test k ≡ false
+count_zero test n e k h =
+    let long = length-range_with_len 0 n in
+    let here : get_or (range_with_len 0 n) k 0 ≡ k = get_or-range_with_len 0 n k 0 h ∙ zero-add k in
+    let most : cond (test k) 1 0 ≤ count_by test (range_with_len 0 n) = rw here at (get_or-le-sum_by (λ p. cond (test p) 1 0) (range_with_len 0 n) k 0 (omega arith)) in
+    fails (test k) (omega arith)
   where
-    apart : (xs ys : List ℤ) → length xs < length ys → read_at xs (length xs) ≡ read_at ys (length xs) → ⊥
-    apart xs ys l e = grind (arith, nat_tests)
+    fails : (b : Bool) → cond b 1 0 ≤ 0 → b ≡ false
+    fails b e = grind arith
 
-same_entry : (xs ys : List ℤ) (i : ℕ) → i < length xs → i < length ys → read_at xs i ≡ read_at ys i → get_or xs i (pos 0) ≡ get_or ys i (pos 0)
-same_entry xs ys i h k e = grind (arith, nat_tests)
+-- lists that read alike at each place are one
+alike_all : (xs ys : List ℤ) → ((p : ℕ) → read_at xs p ≡ read_at ys p) → xs ≡ ys
+alike_all [] [] h = refl
+alike_all [] (y ∷ ys) h = absurd (none-some y (h 0))
+alike_all (x ∷ xs) [] h = absurd (none-some x (sym (h 0)))
+alike_all (x ∷ xs) (y ∷ ys) h = let rest = alike_all xs ys (λ p. h (suc p)) in cc (h 0)
 
 pub differing_none : (xs ys : List ℤ) → differing xs ys ≡ 0 → xs ≡ ys
 differing_none xs ys e =
-    let reads : (p : ℕ) → p < max (length xs) (length ys) → read_at xs p ≡ read_at ys p = λ p h. agreed (read_at xs p) (read_at ys p) (count_zero _ (max (length xs) (length ys)) e p h) in
-    let up = no_longer xs ys (λ p h. reads p (omega arith)) in
-    let down = no_longer ys xs (λ p h. sym (reads p (omega arith))) in
-    ext_get_or (pos 0) xs ys (omega arith) (λ i h. same_entry xs ys i h (omega arith) (reads i (omega arith)))
+    let size = max (length xs) (length ys) in
+    alike_all xs ys (λ p.
+    ⊎_elim
+    (λ t. agreed (read_at xs p) (read_at ys p) (count_zero (λ p. not (alike (read_at xs p) (read_at ys p))) size e p t.1))
+    (λ t. slice_get_past xs p (omega arith) ∙ sym (slice_get_past ys p (omega arith)))
+    (leb_tells (suc p) size))

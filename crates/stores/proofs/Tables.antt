@@ -1,6 +1,8 @@
 -- The table of an overlay: what it has for each place once one slot is written.
 -- Assumes nothing.
-use Rattle.std.proofs.Common.{◌≡◌, ℕ, zero, suc, pred, ◌<◌, Bool, true, false, cond, eqb, ltb, ◌⊎◌, List, [], ◌∷◌, length, get_or, set, replicate, ℤ, pos, is_some, Some, None, Option, sym, refl, ap, ◌∙◌, subst, inl, inr, ⊎_elim, le_of_suc-le-suc, arith, MatchOption}
+use Rattle.std.proofs.Common.{◌≡◌, ℕ, zero, suc, pred, ◌<◌, true, false, cond, eqb, ltb, ◌⊎◌, List, [], ◌∷◌, length, get_or, set, replicate, ◌≢◌, All, ℤ, pos, is_some, Some, None, Option, sym, refl, ap, ◌∙◌, subst, inl, inr, ⊎_elim, le_of_suc-le-suc, arith, MatchOption}
+use Rattle.std.specs.Option.{option_map}
+use Rattle.std.proofs.lemmas.Option.{none-some, same_Some}
 use Rattle.std.proofs.lemmas.List.{length-set, get_or_past, get_or-set_same, get_or-set_other, set-get_or}
 use Rattle.std.proofs.lemmas.List.Sums.{count_by-le-length, sum_by-cons, sum_by-set}
 use Rattle.std.proofs.lemmas.Bool.Decides.{nat_tests, eqb_tells, leb_tells}
@@ -8,9 +10,6 @@ use Rattle.rounding.specs.Numbers.{Weight}
 use Rattle.stores.specs.declared.patch.Patch.{Patch}
 use Rattle.stores.specs.Overlay.{Slot, Changed, counted, lookup, room, table_size, taken}
 use Rattle.stores.specs.Tables.{Apart, Only, OpenTo, Seat, TableWeights, place_of, slot_with}
-
-free : (p : ℕ) → place_of None ≡ Some p → ⊥
-free p e = let z : ◌≡◌ {A = ℕ} 0 1 = cc in omega arith
 
 -- ---- one slot more, or another one, in front
 skip : (p : ℕ) (s : Slot) (ss : List Slot) → (place_of s ≡ Some p → ⊥) → lookup p (s ∷ ss) ≡ lookup p ss
@@ -92,20 +91,20 @@ slot_free i ss h e =
   where
     vacant : (s : Slot) → place_of s ≡ None → ◌≡◌ {A = ℕ} (cond (is_some s) 1 0) 0
     vacant None e = refl
-    vacant (Some x) e = absurd (free x.place (sym e))
+    vacant (Some x) e = absurd (none-some x.place (sym e))
 
 -- with no free slot, all are taken
-pub all_taken : (ss : List Slot) → ((k : ℕ) → k < length ss → place_of (get_or ss k None) ≡ None → ⊥) → taken ss ≡ length ss
+pub all_taken : (ss : List Slot) → All (λ s. place_of s ≢ None) ss → taken ss ≡ length ss
 all_taken [] n = refl
-all_taken (None ∷ ss) n = absurd (n 0 (omega arith) refl)
-all_taken (Some x ∷ ss) n = sum_by-cons (λ s. cond (is_some s) 1 0) (Some x) ss ∙ (let ih = all_taken ss (λ k h. n (suc k) (omega arith)) in omega arith)
+all_taken (None ∷ ss) n = absurd (n 0 None (omega arith) refl)
+all_taken (Some x ∷ ss) n = sum_by-cons (λ s. cond (is_some s) 1 0) (Some x) ss ∙ (let ih = all_taken ss (λ k d h. n (suc k) d (omega arith)) in omega arith)
 
 -- past the last slot there is none
-pub beyond : (p : ℕ) (ss : List Slot) → ((k : ℕ) → k < length ss → place_of (get_or ss k None) ≡ Some p → ⊥) → (j : ℕ) → place_of (get_or ss j None) ≡ Some p → ⊥
+pub beyond : (p : ℕ) (ss : List Slot) → All (λ s. place_of s ≢ Some p) ss → (j : ℕ) → place_of (get_or ss j None) ≡ Some p → ⊥
 beyond p ss n j e =
     ⊎_elim
-    (λ t. n j t.1 e)
-    (λ t. free p (ap place_of (sym (get_or_past ss j None (le_of_suc-le-suc t.1))) ∙ e))
+    (λ t. n j None t.1 e)
+    (λ t. none-some p (ap place_of (sym (get_or_past ss j None (le_of_suc-le-suc t.1))) ∙ e))
     (leb_tells (suc j) (length ss))
 
 -- ---- a new table
@@ -115,42 +114,36 @@ empty_slot (suc n) zero = refl
 empty_slot (suc n) (suc i) = empty_slot n i
 
 pub empty_apart : (n : ℕ) → Apart (replicate n None)
-empty_apart n i j clash = absurd (free clash.0 (ap place_of (sym (empty_slot n i)) ∙ clash.1))
+empty_apart n i j clash = absurd (none-some clash.0 (ap place_of (sym (empty_slot n i)) ∙ clash.1))
 
 pub empty_lookup : (n p : ℕ) → lookup p (replicate n None) ≡ None
-empty_lookup n p = lookup_none p (replicate n None) (λ j e. free p (ap place_of (sym (empty_slot n j)) ∙ e))
+empty_lookup n p = lookup_none p (replicate n None) (λ j e. none-some p (ap place_of (sym (empty_slot n j)) ∙ e))
 
 pub empty_weights : (n : ℕ) → TableWeights (replicate n None)
-empty_weights n p v e = absurd (never (sym (empty_lookup n p) ∙ e))
-  where
-    never : None ≡ Some v → ⊥
-    never e = let z : ◌≡◌ {A = ℕ} 0 1 = cc in omega arith
+empty_weights n p v e = absurd (none-some v (sym (empty_lookup n p) ∙ e))
 
 -- ---- the slot for a place
-taken_by : {p q : ℕ} → Some q ≡ Some p → q ≡ p
-taken_by e = cc
-
 -- a place that has taken a slot is in the table
 found : (p : ℕ) (ss : List Slot) (j : ℕ) → place_of (get_or ss j None) ≡ Some p → is_some (lookup p ss) ≡ true
-found p [] j e = absurd (free p e)
-found p (None ∷ ss) zero e = absurd (free p e)
+found p [] j e = absurd (none-some p e)
+found p (None ∷ ss) zero e = absurd (none-some p e)
 found p (None ∷ ss) (suc j) e = found p ss j e
-found p (Some x ∷ ss) zero e = let k = taken_by e in grind (arith, nat_tests)
+found p (Some x ∷ ss) zero e = let k = same_Some x.place p e in grind (arith, nat_tests)
 found p (Some x ∷ ss) (suc j) e = let ih = found p ss j e in grind (arith, nat_tests)
 
 module _ (p : ℕ) (ss : List Slot) where
   -- its own
   pub own_slot : Apart ss → (r : Option ℕ)
-      → MatchOption r ((k : ℕ) → k < length ss → place_of (get_or ss k None) ≡ Some p → ⊥) (λ i. (i < length ss) × (place_of (get_or ss i None) ≡ Some p))
-      → MatchOption r (lookup p ss ≡ None) (λ i. Seat p ss i × (place_of (get_or ss i None) ≡ Some p) × (is_some (lookup p ss) ≡ true))
+      → MatchOption r (All (λ s. place_of s ≢ Some p) ss) (λ i. (i < length ss) × (place_of (get_or ss i None) ≡ Some p))
+      → MatchOption r (lookup p ss ≡ None) (λ i. Seat p ss i × (place_of (get_or ss i None) ≡ Some p))
   own_slot apart None nowhere = lookup_none p ss (beyond p ss nowhere)
   own_slot apart (Some i) here =
       let own = here.1 in
-      ((here.0, λ q e. taken_by (sym e ∙ own), λ j e. apart j i (p, e, own)), own, found p ss i own)
+      ((here.0, λ q e. same_Some q p (sym e ∙ own), λ j e. apart j i (p, e, own)), own)
 
   -- or a free one
   pub free_slot : length ss ≡ table_size → lookup p ss ≡ None → (r : Option ℕ)
-      → MatchOption r ((k : ℕ) → k < length ss → place_of (get_or ss k None) ≡ None → ⊥) (λ i. (i < length ss) × (place_of (get_or ss i None) ≡ None))
+      → MatchOption r (All (λ s. place_of s ≢ None) ss) (λ i. (i < length ss) × (place_of (get_or ss i None) ≡ None))
       → MatchOption r (room p ss ≡ false) (λ i. (room p ss ≡ true) × Seat p ss i)
   free_slot long gone None full =
       let all = all_taken ss full in
@@ -159,15 +152,21 @@ module _ (p : ℕ) (ss : List Slot) where
   free_slot long gone (Some i) here =
       let some = slot_free i ss here.0 here.1 in
       let t : ltb (taken ss) table_size ≡ true = grind (arith, nat_tests) in
-      (rw (gone, t) refl, (here.0, λ q e. absurd (free q (sym here.1 ∙ e)), λ j e. absurd (missing gone (found p ss j e))))
-    where
-      missing : {o : Option ℤ} → o ≡ None → is_some o ≡ true → ⊥
-      missing e h = let z : ◌≡◌ {A = Bool} true false = sym h ∙ ap is_some e in grind arith
+      (rw (gone, t) refl, (here.0, λ q e. absurd (none-some q (sym here.1 ∙ e)), λ j e. absurd (grind (arith, gone, found p ss j e))))
+
+  -- its own, and else a free one
+  pub seat_for : length ss ≡ table_size → (own r : Option ℕ) {Free : Type 0}
+      → MatchOption own (lookup p ss ≡ None) (λ i. Seat p ss i × (place_of (get_or ss i None) ≡ Some p))
+      → MatchOption own Free (λ i. r ≡ Some i)
+      → (Free → MatchOption r (All (λ s. place_of s ≢ None) ss) (λ i. (i < length ss) × (place_of (get_or ss i None) ≡ None)))
+      → MatchOption r (room p ss ≡ false) (λ i. (room p ss ≡ true) × Seat p ss i)
+  seat_for long None r gone free is = free_slot long gone r (is free)
+  seat_for long (Some i) r own e is = rw e (rw (found p ss i own.1) refl, own.0)
 
 -- ---- a value is kept for a place, or the place is taken out
 kept_open : (p : ℕ) (v : Option ℤ) → OpenTo p (slot_with p v)
-kept_open p None q e = absurd (free q e)
-kept_open p (Some v) q e = sym (taken_by e)
+kept_open p None q e = absurd (none-some q e)
+kept_open p (Some v) q e = same_Some q p (sym e)
 
 kept_lookup : (p : ℕ) (v : Option ℤ) → lookup p (slot_with p v ∷ []) ≡ v
 kept_lookup p None = refl
@@ -188,8 +187,9 @@ module _ (p i : ℕ) (ss : List Slot) (v : Option ℤ) (seat : Seat p ss i) wher
       (eqb_tells q p)
 
 -- ---- the table's own value
-pub slot_value : (p i : ℕ) (ss : List Slot) (x : Patch) → Seat p ss i → get_or ss i None ≡ Some x → place_of (get_or ss i None) ≡ Some p → lookup p ss ≡ Some x.value
-slot_value p i ss x seat e own = lookup_slot p i ss seat.0 seat.2 ∙ ap (λ s. lookup p (s ∷ [])) e ∙ alone (taken_by (sym (ap place_of e) ∙ own))
+pub slot_value : (p i : ℕ) (ss : List Slot) → Seat p ss i → place_of (get_or ss i None) ≡ Some p → lookup p ss ≡ option_map (λ x. x.value) (get_or ss i None)
+slot_value p i ss seat own = lookup_slot p i ss seat.0 seat.2 ∙ alone (get_or ss i None) own
   where
-    alone : x.place ≡ p → lookup p (Some x ∷ []) ≡ Some x.value
-    alone k = grind (arith, nat_tests)
+    alone : (s : Slot) → place_of s ≡ Some p → lookup p (s ∷ []) ≡ option_map (λ x. x.value) s
+    alone None e = refl
+    alone (Some x) e = let k = same_Some x.place p e in grind (arith, nat_tests)

@@ -1,18 +1,21 @@
 -- Half bytes: what they are worth, and the bytes as a list of halves.
 -- Assumes nothing.
-use Rattle.std.specs.Prelude.{◌≡◌, ℕ, zero, suc, ◌+◌, ◌*◌, ◌/◌, ◌%◌, ◌^◌, ◌<◌, ◌≤◌, true, false, ◌&&◌, List, [], ◌∷◌, All, map, length, ℤ, pos, ◌+ℤ◌, neg_ℤ, ◌≤ℤ◌, ◌<ℤ◌, Some, None, Err, ◌≢◌, int_le, nat_lt, slice_index, slice_index_or, slice_set, refl}
+use Rattle.std.specs.Prelude.{◌≡◌, ℕ, zero, suc, ◌+◌, ◌*◌, ◌/◌, ◌%◌, ◌^◌, ◌<◌, ◌≤◌, true, false, ◌&&◌, List, [], ◌∷◌, All, map, length, ℤ, pos, ◌+ℤ◌, neg_ℤ, ◌≤ℤ◌, ◌<ℤ◌, Some, None, Err, ◌≢◌, int_le, nat_lt, slice_get, slice_index, slice_set, Option, refl}
+use Rattle.std.specs.Ordering.{int_eq}
 use Rattle.std.proofs.Common.{ap, ◌∙◌, arith, pow_mono, pow_pos}
 use Rattle.std.proofs.lemmas.List.Elements.{All-nil, All-cons}
-use Rattle.std.proofs.lemmas.List.{length-map, get_or-map, map-set}
+use Rattle.std.specs.Option.{option_map}
+use Rattle.std.proofs.lemmas.Option.{slice_get-map}
+use Rattle.std.proofs.lemmas.List.{length-map, map-set}
 use Rattle.std.proofs.lemmas.Int.{by_lt_z, ints}
-use Rattle.std.proofs.lemmas.Bool.Decides.{nat_tests}
+use Rattle.std.proofs.lemmas.Bool.Decides.{nat_tests, Decides-int_eq}
 use Rattle.rounding.specs.Numbers.{Between, Weight, floor_over}
 use Rattle.rounding.proofs.Ring.{mul_pos_le}
 use Rattle.rounding.proofs.Roundings.{floor_is, cancel_le}
-use Rattle.stores.specs.Shared.{not_place, read_entry, read_past}
+use Rattle.stores.specs.Shared.{not_place}
 use Rattle.stores.specs.Halves.{half_at, with_half}
 use Rattle.stores.specs.Packed.{PackableTested, halves, most_shift, packable, packed_answer, packed_entries, scaled, signed_half}
-use Rattle.stores.specs.Stores.{read_at, same}
+use Rattle.stores.specs.Stores.{read_at}
 use Rattle.stores.specs.declared.fault.StoreFault.TheVariants.{Place, Value}
 
 pub unit_small : (s : ℕ) → s ≤ most_shift → 2 ^ s ≤ 4096
@@ -39,11 +42,12 @@ even_up p = omega arith
 past : {A : Type 0} (n : ℕ) → n < 0 → A
 past n h = let z : ⊥ = omega arith in absurd z
 
-pub get_or_halves : (bs : List ℕ) (p : ℕ) → p / 2 < length bs → slice_index (halves bs) p ≡ half_at (slice_index bs (p / 2)) p
-get_or_halves [] p h = past (p / 2) h
-get_or_halves (b ∷ bs) zero h = refl
-get_or_halves (b ∷ bs) (suc zero) h = refl
-get_or_halves (b ∷ bs) (suc (suc p)) h = rw (half_up p, even_up p) (get_or_halves bs p (omega arith))
+-- the half that a place has, by the byte that has it
+slice_get-halves : (bs : List ℕ) (p : ℕ) → slice_get (halves bs) p ≡ option_map (λ b. half_at b p) (slice_get bs (p / 2))
+slice_get-halves [] p = refl
+slice_get-halves (b ∷ bs) zero = refl
+slice_get-halves (b ∷ bs) (suc zero) = refl
+slice_get-halves (b ∷ bs) (suc (suc p)) = rw (half_up p, even_up p) (slice_get-halves bs p)
 
 joined_front : (x y : ℕ) → x < 16 → y < 16 → (x * 16 + y) / 16 % 16 ≡ x
 joined_front x y h k = let q : (x * 16 + y) / 16 ≡ x = omega arith in rw q (omega arith)
@@ -63,33 +67,38 @@ set_halves (b ∷ bs) (suc (suc p)) h k l = rw (half_up p, even_up p) (ap (λ t.
 four_bits : (h : ℕ) → h < 16 → Between (neg_ℤ (pos 8)) (pos 7) (signed_half h)
 four_bits h k = grind (arith, ints, nat_tests)
 
+-- what a half is worth is a weight
+pub half_weight : (s h : ℕ) → s ≤ most_shift → h < 16 → Weight (scaled s (signed_half h))
+half_weight s h small half = scaled_weight s (signed_half h) (unit_small s small) (four_bits h half)
+
 module _ (s : ℕ) (bs : List ℕ) where
   pub packed_length : length (packed_entries s bs) ≡ 2 * length bs
   packed_length = length-map (halves bs) (λ h. scaled s (signed_half h)) ∙ length_halves bs
 
-  get_or_packed : (p : ℕ) → p / 2 < length bs → slice_index_or (packed_entries s bs) p (pos 0) ≡ scaled s (signed_half (half_at (slice_index bs (p / 2)) p))
-  get_or_packed p h =
-      let l : p < length (halves bs) = let n = length_halves bs in omega arith in
-      get_or-map (λ h. scaled s (signed_half h)) (halves bs) p 0 (pos 0) l ∙ ap (λ h. scaled s (signed_half h)) (get_or_halves bs p h)
-
   -- READ, by the byte that has the place
-  pub read_packed : (p : ℕ) → p / 2 < length bs → read_at (packed_entries s bs) p ≡ Some (scaled s (signed_half (half_at (slice_index bs (p / 2)) p)))
-  read_packed p h = let l = packed_length in read_entry (packed_entries s bs) p (omega arith) ∙ ap Some (get_or_packed p h)
+  pub read_packed : (p : ℕ) → read_at (packed_entries s bs) p ≡ option_map (λ b. scaled s (signed_half (half_at b p))) (slice_get bs (p / 2))
+  read_packed p =
+      slice_get-map (λ h. scaled s (signed_half h)) (halves bs) p ∙ ap (option_map (λ h. scaled s (signed_half h))) (slice_get-halves bs p) ∙ both (slice_get bs (p / 2))
+    where
+      both : (o : Option ℕ) → option_map (λ h. scaled s (signed_half h)) (option_map (λ b. half_at b p) o) ≡ option_map (λ b. scaled s (signed_half (half_at b p))) o
+      both None = refl
+      both (Some b) = refl
 
-  pub read_packed_past : (p : ℕ) → length bs ≤ p / 2 → read_at (packed_entries s bs) p ≡ None
-  read_packed_past p h = let l = packed_length in read_past (packed_entries s bs) p (omega arith)
+-- WRITE: the byte with another half at p, which is worth v
+module _ (s : ℕ) (bs cs : List ℕ) (p h : ℕ) (inside : p / 2 < length bs) (half : h < 16) (put : cs ≡ slice_set bs (p / 2) (with_half (slice_index bs (p / 2)) p h)) where
+  pub halves_written : halves cs ≡ slice_set (halves bs) p h
+  halves_written = ap halves put ∙ set_halves bs p h inside half
 
-  pub set_packed : (p h : ℕ) → p / 2 < length bs → h < 16
-      → packed_entries s (slice_set bs (p / 2) (with_half (slice_index bs (p / 2)) p h)) ≡ slice_set (packed_entries s bs) p (scaled s (signed_half h))
-  set_packed p h k l = ap (map (λ n. scaled s (signed_half n))) (set_halves bs p h k l) ∙ map-set (λ n. scaled s (signed_half n)) (halves bs) p h
+  pub packed_written : (v : ℤ) → scaled s (signed_half h) ≡ v → packed_entries s cs ≡ slice_set (packed_entries s bs) p v
+  packed_written v worth =
+      ap (map (λ n. scaled s (signed_half n))) halves_written ∙ map-set (λ n. scaled s (signed_half n)) (halves bs) p h ∙ ap (slice_set (packed_entries s bs) p) worth
 
 -- every entry of a packed store is a weight
 pub packed_weights : (s : ℕ) → s ≤ most_shift → (bs : List ℕ) → All Weight (packed_entries s bs)
 packed_weights s h [] = All-nil Weight
 packed_weights s h (b ∷ bs) =
-    let u = unit_small s h in
-    let low = scaled_weight s (signed_half (b % 16)) u (four_bits (b % 16) (omega arith)) in
-    let high = scaled_weight s (signed_half (b / 16 % 16)) u (four_bits (b / 16 % 16) (omega arith)) in
+    let low = half_weight s (b % 16) h (omega arith) in
+    let high = half_weight s (b / 16 % 16) h (omega arith) in
     let upper = scaled s (signed_half (b / 16 % 16)) in
     let rest = packed_entries s bs in
     All-cons Weight _ (upper ∷ rest) low (All-cons Weight upper rest high (packed_weights s h bs))
@@ -106,11 +115,11 @@ unscaled s n =
     less : {x y : ℤ} → x <ℤ y → y ≤ℤ x → ⊥
     less h k = omega (arith, ints)
 
-passed : (n w v : ℤ) → (int_le (neg_ℤ (pos 8)) n && int_le n (pos 7) && same w v) ≡ true → Between (neg_ℤ (pos 8)) (pos 7) n × (v ≡ w)
-passed n w v h = grind (arith, ints)
+passed : (n w v : ℤ) → (int_le (neg_ℤ (pos 8)) n && int_le n (pos 7) && int_eq w v) ≡ true → Between (neg_ℤ (pos 8)) (pos 7) n × (v ≡ w)
+passed n w v h = grind (arith, ints, Decides-int_eq)
 
-passes : (n w v : ℤ) → Between (neg_ℤ (pos 8)) (pos 7) n → v ≡ w → (int_le (neg_ℤ (pos 8)) n && int_le n (pos 7) && same w v) ≡ true
-passes n w v b e = grind (arith, ints)
+passes : (n w v : ℤ) → Between (neg_ℤ (pos 8)) (pos 7) n → v ≡ w → (int_le (neg_ℤ (pos 8)) n && int_le n (pos 7) && int_eq w v) ≡ true
+passes n w v b e = grind (arith, ints, Decides-int_eq)
 
 pub packable_decides : PackableTested
 packable_decides s v = (

@@ -1,8 +1,9 @@
 -- A store of half bytes: two entries a byte, the lower half first, each a number of four bits times a power of two.
-use Rattle.std.specs.Prelude.{◌≡◌, ℕ, ◌*◌, ◌/◌, ◌%◌, ◌^◌, Bool, cond, ◌&&◌, List, [], ◌∷◌, map, length, ℤ, pos, ◌-ℤ◌, ◌*ℤ◌, neg_ℤ, Ok, Err, Decides, int_le, nat_lt, slice_set}
+use Rattle.std.specs.Prelude.{◌≡◌, ℕ, ◌*◌, ◌/◌, ◌%◌, ◌^◌, Bool, if◌then◌else◌, ◌&&◌, List, [], ◌∷◌, map, length, ℤ, pos, ◌-ℤ◌, ◌*ℤ◌, neg_ℤ, Ok, Err, IsTrue, ◌↔◌, int_le, nat_lt, slice_set}
+use Rattle.std.specs.Ordering.{int_eq}
 use Rattle.rounding.specs.Numbers.{Between, floor_over}
 use Rattle.stores.specs.declared.fault.StoreFault.TheVariants.{Place, Value}
-use Rattle.stores.specs.Stores.{Answer, Meaning, same}
+use Rattle.stores.specs.Stores.{Answer, Meaning}
 
 -- the most bytes that a packed store uses, two places each
 abbrev pub most_bytes : ℕ
@@ -19,7 +20,7 @@ halves (b ∷ bs) = b % 16 ∷ b / 16 % 16 ∷ halves bs
 
 -- a half byte in two's complement: -8 to 7
 abbrev pub signed_half : ℕ → ℤ
-signed_half n = cond (nat_lt n 8) (pos n) (pos n -ℤ pos 16)
+signed_half n = if nat_lt n 8 then pos n else pos n -ℤ pos 16
 
 -- under the shift s, a half with the number n is worth n times 2^s
 abbrev pub scaled : ℕ → ℤ → ℤ
@@ -35,15 +36,15 @@ Packable s v = (n : ℤ) × Between (neg_ℤ (pos 8)) (pos 7) n × (v ≡ scaled
 
 -- the same as a test: v over 2^s, rounded down, is the number of a half, and that half is worth v
 abbrev pub packable : ℕ → ℤ → Bool
-packable s v = int_le (neg_ℤ (pos 8)) (floor_over v (2 ^ s)) && int_le (floor_over v (2 ^ s)) (pos 7) && same (scaled s (floor_over v (2 ^ s))) v
+packable s v = int_le (neg_ℤ (pos 8)) (floor_over v (2 ^ s)) && int_le (floor_over v (2 ^ s)) (pos 7) && int_eq (scaled s (floor_over v (2 ^ s))) v
 
 -- the test is passed by those values and no others, whatever the shift
 abbrev pub PackableTested : Type 0
-PackableTested = (s : ℕ) (v : ℤ) → Decides (packable s v) (Packable s v)
+PackableTested = (s : ℕ) (v : ℤ) → IsTrue (packable s v) ↔ Packable s v
 
 -- HOLDS on n bytes under the shift s
 abbrev pub packed_answer : ℕ → ℕ → ℕ → ℤ → Answer
-packed_answer n s p v = cond (nat_lt p (2 * n)) (cond (packable s v) (Ok tt) (Err Value)) (Err Place)
+packed_answer n s p v = if nat_lt p (2 * n) then (if packable s v then Ok tt else Err Value) else Err Place
 
 -- the bytes under the shift s show what their halves are worth, and accept what some half is worth
 abbrev pub packed_meaning : ℕ → List ℕ → Meaning

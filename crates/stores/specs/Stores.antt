@@ -1,5 +1,5 @@
 -- A weight store, by what it means.
-use Rattle.std.specs.Prelude.{◌≡◌, ℕ, ◌<◌, ◌≤◌, Bool, cond, ◌&&◌, List, All, length, ℤ, pos, Some, None, Ok, Err, Option, Result, ◌≢◌, int_le, nat_lt, slice_index_or, slice_set}
+use Rattle.std.specs.Prelude.{◌≡◌, ℕ, ◌<◌, ◌≤◌, List, All, length, ℤ, Ok, Err, Option, Result, slice_get, ◌≢◌, slice_set}
 use Rattle.rounding.specs.Numbers.{Weight}
 use Rattle.stores.specs.declared.fault.StoreFault.{StoreFault}
 use Rattle.stores.specs.declared.fault.StoreFault.TheVariants.{Place, Value, Full}
@@ -32,7 +32,7 @@ pub record StoreLaws (m : Meaning) : Type 0 where
 
 -- READ: the entry at a place, or none from the size on
 abbrev pub read_at : List ℤ → ℕ → Option ℤ
-read_at es p = cond (nat_lt p (length es)) (Some (slice_index_or es p (pos 0))) None
+read_at = slice_get
 
 -- WRITE: it answers as HOLDS would; accepted, it sets that entry and no other, and refused, it alters nothing
 abbrev pub Written : Meaning → ℕ → ℤ → Answer → Meaning → Type 0
@@ -43,7 +43,3 @@ Written before p v (Err e) after = (before.holds p v ≡ Err e) × (after ≡ be
 abbrev pub Untouched : {S : Type 0} → Answer → S → S → Type 0
 Untouched (Ok u) before after = Unit {0}
 Untouched (Err e) before after = after ≡ before
-
--- equal whole numbers
-abbrev pub same : ℤ → ℤ → Bool
-same a b = int_le a b && int_le b a

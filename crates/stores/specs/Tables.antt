@@ -1,5 +1,6 @@
 -- The inside of an overlay's table: which slot a place has, and which it can take.
 use Rattle.std.specs.Prelude.{◌≡◌, ℕ, ◌<◌, true, false, List, length, ℤ, Some, None, Ok, Err, Option, slice_index_or}
+use Rattle.std.specs.Option.{option_map}
 use Rattle.rounding.specs.Numbers.{Weight}
 use Rattle.stores.specs.declared.fault.StoreFault.TheVariants.{Full}
 use Rattle.stores.specs.Overlay.{Changed, Slot, lookup, room}
@@ -7,13 +8,11 @@ use Rattle.stores.specs.Stores.{Answer}
 
 -- the place that has taken the slot
 abbrev pub place_of : Slot → Option ℕ
-place_of None = None
-place_of (Some x) = Some x.place
+place_of = option_map (λ x. x.place)
 
 -- a slot that keeps the value for p, or a free one where there is none
 abbrev pub slot_with : ℕ → Option ℤ → Slot
-slot_with p None = None
-slot_with p (Some v) = Some (record { place = p; value = v })
+slot_with p = option_map (λ v. record { place = p; value = v })
 
 -- one place has taken both slots
 abbrev pub Clash : Slot → Slot → Type 0

@@ -1,28 +1,16 @@
-ghost use Rattle.std.specs.Prelude.{◌≡◌, not};
-ghost use Rattle.stores.specs.Differing.{alike, differing};
+ghost use Rattle.std.specs.Prelude.{◌≡◌, ◌↔◌};
+ghost use Rattle.stores.specs.Differing.{differing};
 
 use crate::store::Store;
 
-// Whether two reads gave different answers.
-fn differ(x: Option<i16>, y: Option<i16>) -> bool
-    ensures { result ≡ not (alike x y) }
-{
-    x != y
-}
-
-// How many places read otherwise in the one store than in the other.
+/// How many places read otherwise in the one store than in the other.
 pub fn differing<S: Store, T: Store>(one: &S, other: &T) -> usize
-    ensures count { result ≡ differing (S.Store.meaning one.now).entries (T.Store.meaning other.now).entries }
-    ensures none { result ≡ 0 → (S.Store.meaning one.now).entries ≡ (T.Store.meaning other.now).entries }
-    ensures same { (S.Store.meaning one.now).entries ≡ (T.Store.meaning other.now).entries → result ≡ 0 }
+    ensures count { result ≡ differing (S.meaning one.now).entries (T.meaning other.now).entries }
+    ensures none { (result ≡ 0) ↔ ((S.meaning one.now).entries ≡ (T.meaning other.now).entries) }
 {
-    let mut count = 0;
-    for place in 0..one.size().max(other.size()) {
-        if differ(one.read(place), other.read(place)) {
-            count += 1;
-        }
-    }
-    count
+    (0..one.size().max(other.size()))
+        .filter(|&place| one.read(place) != other.read(place))
+        .count()
 }
 
 #[cfg(test)]

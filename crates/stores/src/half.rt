@@ -1,86 +1,53 @@
-ghost use Rattle.std.specs.Prelude.{◌≡◌, ◌^◌, ◌<◌, ◌≤◌, true, false, pos, neg_ℤ, MatchOption};
+ghost use Rattle.std.specs.Prelude.{◌≡◌, ◌<◌, pos, neg_ℤ, MatchOption};
 ghost use Rattle.rounding.specs.Numbers.{Between};
 ghost use Rattle.stores.specs.Halves.{half_at, with_half};
-ghost use Rattle.stores.specs.Packed.{most_shift, packable, scaled, signed_half};
+ghost use Rattle.stores.specs.Packed.{signed_half};
 
-// The half of a byte that a place has: the lower one at an even place.
-pub(crate) fn half_of(byte: u8, place: usize) -> u8
-    ensures is { result ≡ half_at byte place }
-    ensures small { result < 16 }
-{
-    if place % 2 == 0 { byte % 16 } else { byte / 16 }
+// Half a byte, the bits of one place of a packed store.
+#[derive(Clone, Copy, Debug, PartialEq, Eq, Hash)]
+pub(crate) struct Half {
+    bits: u8,
+    ghost four_bits: { bits < 16 },
 }
 
-// The byte with another half at that place, and its neighbour as it was.
-pub(crate) fn with_half(byte: u8, place: usize, half: u8) -> u8
-    requires { half < 16 }
-    ensures { result ≡ with_half byte place half }
-{
-    if place % 2 == 0 {
-        byte / 16 * 16 + half
-    } else {
-        half * 16 + byte % 16
+impl Half {
+    // The half of a byte that a place has: the lower one at an even place.
+    pub(crate) fn of(byte: u8, place: usize) -> Half
+        ensures { result.bits ≡ half_at byte place }
+    {
+        let bits = if place % 2 == 0 { byte % 16 } else { byte / 16 };
+        Half { bits }
     }
-}
 
-// The number of a half in two's complement.
-fn signed_half(half: u8) -> i16
-    requires { half < 16 }
-    ensures is { result ≡ signed_half half }
-    ensures four_bits { Between (neg_ℤ (pos 8)) (pos 7) result }
-{
-    let n = i16::from(half);
-    if half < 8 { n } else { n - 16 }
-}
-
-// The half that has a number.
-fn half_with(number: i16) -> u8
-    requires { Between (neg_ℤ (pos 8)) (pos 7) number }
-    ensures is { signed_half result ≡ number }
-    ensures small { result < 16 }
-{
-    if number < 0 {
-        (number + 16) as u8
-    } else {
-        number as u8
+    // The half that has a number, if any has.
+    pub(crate) fn with_number(number: i16) -> Option<Half>
+        ensures { MatchOption result
+            (¬ Between (neg_ℤ (pos 8)) (pos 7) number)
+            (λ h. signed_half h.bits ≡ number) }
+    {
+        if !(-8..=7).contains(&number) {
+            return None;
+        }
+        let bits = number.rem_euclid(16) as u8;
+        Some(Half { bits })
     }
-}
 
-// Two to the shift.
-fn unit(shift: u32) -> i32
-    requires { shift ≤ most_shift }
-    ensures is { result ≡ pos (2 ^ shift) }
-    ensures small { 2 ^ shift ≤ 4096 }
-{
-    1 << shift
-}
-
-// The number of a half times two to the shift.
-fn times_unit(number: i16, shift: u32) -> i16
-    requires number { Between (neg_ℤ (pos 8)) (pos 7) number }
-    requires shift { shift ≤ most_shift }
-    ensures { result ≡ scaled shift number }
-{
-    (unit(shift) * i32::from(number)) as i16
-}
-
-// What a half is worth under the shift.
-pub(crate) fn worth(half: u8, shift: u32) -> i16
-    requires half { half < 16 }
-    requires shift { shift ≤ most_shift }
-    ensures { result ≡ scaled shift (signed_half half) }
-{
-    times_unit(signed_half(half), shift)
-}
-
-// The half that is worth a value under the shift, if any is.
-pub(crate) fn half_worth(value: i16, shift: u32) -> Option<u8>
-    requires { shift ≤ most_shift }
-    ensures { MatchOption result (packable shift value ≡ false) (λ h. (packable shift value ≡ true) × (h < 16) × (scaled shift (signed_half h) ≡ value)) }
-{
-    let number = value >> shift;
-    if number < -8 || 7 < number || times_unit(number, shift) != value {
-        return None;
+    // The half's number in two's complement.
+    pub(crate) fn number(self) -> i16
+        ensures { result ≡ signed_half self.bits }
+    {
+        let n = i16::from(self.bits);
+        if self.bits < 8 { n } else { n - 16 }
     }
-    Some(half_with(number))
+
+    // The byte with this half at that place, and the other half as it was.
+    pub(crate) fn put_into(self, byte: u8, place: usize) -> u8
+        ensures { result ≡ with_half byte place self.bits }
+    {
+        if place % 2 == 0 {
+            byte / 16 * 16 + self.bits
+        } else {
+            self.bits * 16 + byte % 16
+        }
+    }
 }

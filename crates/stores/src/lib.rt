@@ -1,4 +1,5 @@
-// Weight stores: the trait with its contracts, plain words, packed halves, and an overlay on any store.
+// Weight stores: the trait with its contracts, plain words, packed halves, and an overlay on any
+// store.
 #![tactic(auto)]
 
 pub mod compare;
@@ -8,5 +9,6 @@ pub mod overlay;
 pub mod packed;
 mod patch;
 pub mod plain;
+mod shift;
 pub mod store;
 mod table;

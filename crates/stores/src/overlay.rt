@@ -8,15 +8,17 @@ use crate::fault::StoreFault;
 use crate::store::Store;
 use crate::table::Table;
 
-// A store that stands on another, which it never writes, and keeps up to 32 other values in a table.
-#[derive(Drop)]
+/// A store that stands on another, which it never writes, and keeps up to 32 other values in a
+/// table.
+#[derive(Debug, Drop)]
 pub struct Overlay<S: Store> {
     below: S,
     table: Table,
 }
 
 impl<S: Store> Overlay<S> {
-    // An overlay that shows what is below.
+    /// An overlay that shows what is below.
+    #[tactic(auto, using(crate::specs::Overlays::overlaid_none, crate::proofs::Tables::empty_lookup))]
     pub fn new(below: S) -> Overlay<S>
         ensures below { result.below ≡ below }
         ensures table { result.table.slots ≡ replicate table_size None }
@@ -28,14 +30,14 @@ impl<S: Store> Overlay<S> {
         }
     }
 
-    // The store below.
+    /// The store below.
     pub fn below(&self) -> &S
         ensures { result.now ≡ self.now.below }
     {
         &self.below
     }
 
-    // Takes the overlay off: the store below, as it was.
+    /// Takes the overlay off: the store below, as it was.
     pub fn into_below(self) -> S
         ensures { result ≡ self.below }
     {
@@ -45,12 +47,12 @@ impl<S: Store> Overlay<S> {
 }
 
 impl<S: Store> Store for Overlay<S> {
-    ghost meaning = { λ o. over_meaning o.table.slots (S.Store.meaning o.below) };
+    ghost meaning = { λ o. over_meaning o.table.slots (S.meaning o.below) };
 
     ghost lawful = { λ s.
         let slots = s.table.slots in
-        let entries = (S.Store.meaning s.below).entries in
-        let below = S.Store.lawful s.below in
+        let entries = (S.meaning s.below).entries in
+        let below = S.lawful s.below in
         let long = overlaid_length 0 slots entries in
         let few = below.few in
         record {
@@ -60,13 +62,16 @@ impl<S: Store> Store for Overlay<S> {
           inside = λ p v w h. over_inside slots entries p v (omega arith);
         } };
 
+    #[tactic(auto, using(crate::specs::Overlays::overlaid_length))]
     fn size(&self) -> usize {
         self.below.size()
     }
 
+    #[tactic(auto, using(crate::specs::Overlays::read_overlaid))]
     fn read(&self, place: usize) -> Option<i16> {
-        let entry = self.below.read(place)?;
-        self.table.get(place).or(Some(entry))
+        self.below
+            .read(place)
+            .map(|entry| self.table.get(place).unwrap_or(entry))
     }
 
     fn holds(&self, place: usize, value: i16) -> Result<(), StoreFault> {
@@ -79,9 +84,14 @@ impl<S: Store> Store for Overlay<S> {
     }
 
     fn write(&mut self, place: usize, value: i16) -> Result<(), StoreFault>
-        ensures written { Written (over_meaning self.old.table.slots (S.Store.meaning self.old.below)) place value result (over_meaning self.new.table.slots (S.Store.meaning self.new.below)) }
+        ensures written { Written
+            (over_meaning self.old.table.slots (S.meaning self.old.below))
+            place value result
+            (over_meaning self.new.table.slots (S.meaning self.new.below)) }
         ensures below { self.new.below ≡ self.old.below }
-        ensures table { TableWritten self.old.table.slots place (slice_index_or (S.Store.meaning self.old.below).entries place (pos 0)) value result self.new.table.slots }
+        ensures table { TableWritten self.old.table.slots place
+            (slice_index_or (S.meaning self.old.below).entries place (pos 0))
+            value result self.new.table.slots }
     {
         let entry = self.below.read(place).ok_or(StoreFault::Place)?;
         if value == entry {

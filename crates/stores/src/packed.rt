@@ -1,4 +1,4 @@
-ghost use Rattle.std.specs.Prelude.{◌≡◌, ◌*◌, ◌/◌, ◌<◌, ◌≤◌, min, take, IfOk, Ok, Err, vec_len, MatchResult, slice_index, slice_set};
+ghost use Rattle.std.specs.Prelude.{◌≡◌, ◌*◌, ◌/◌, ◌<◌, ◌≤◌, min, take, IfOk, OnOk, Ok, Err, vec_len, MatchResult, slice_index, slice_set};
 ghost use Rattle.stores.specs.Halves.{with_half};
 ghost use Rattle.stores.specs.Packed.{HalfWritten, PackableTested, most_bytes, most_shift, packable, packed_answer, packed_meaning, scaled, signed_half};
 ghost use Rattle.stores.specs.Stores.{Untouched, Written};
@@ -6,35 +6,34 @@ ghost use Rattle.std.proofs.Common.{arith};
 ghost use Rattle.stores.specs.HalvesLemmas.{answer_inside, answer_outside, packed_length, packed_weights};
 
 use crate::fault::StoreFault;
-use crate::half::{half_of, half_worth, with_half, worth};
+use crate::half::Half;
+pub use crate::shift::MOST_SHIFT;
+use crate::shift::Shift;
 use crate::store::{MOST_PLACES, Store};
 
-// The largest shift of a packed store.
-pub const MOST_SHIFT: u32 = 12;
-
-// Weights as half bytes, two places to a byte, each a number from -8 to 7 times two to the shift.
-#[derive(Drop)]
+/// Weights as half bytes, two places to a byte, each a number from -8 to 7 times two to the shift.
+#[derive(Debug, Drop)]
 pub struct Packed {
     bytes: Vec<u8>,
-    shift: u32,
+    shift: Shift,
     ghost few: { vec_len bytes ≤ most_bytes },
-    ghost shifted: { shift ≤ most_shift },
 }
 
 impl Packed {
-    // A store of these bytes, without those past the most places. A larger shift than the largest counts as that.
+    /// A store of these bytes, without those past the most places. A larger shift than the largest
+    /// counts as that.
     pub fn new(mut bytes: Vec<u8>, shift: u32) -> Packed
         ensures bytes { result.bytes.items ≡ take most_bytes bytes.items }
-        ensures shift { result.shift ≡ min shift most_shift }
+        ensures shift { result.shift.bits ≡ min shift most_shift }
     {
         bytes.truncate(MOST_PLACES / 2);
         Packed {
             bytes,
-            shift: shift.min(MOST_SHIFT),
+            shift: Shift::at_most(shift),
         }
     }
 
-    // The bytes, as they are now.
+    /// The bytes, as they are now.
     pub fn into_bytes(self) -> Vec<u8>
         ensures { result ≡ self.bytes }
     {
@@ -42,12 +41,12 @@ impl Packed {
         bytes
     }
 
-    // Whether packed stores with this shift can keep a value.
+    /// Whether packed stores with this shift can keep a value.
     pub fn keeps(shift: u32, value: i16) -> bool
         ensures value { result ≡ packable (min shift most_shift) value }
         ensures test { PackableTested }
     {
-        half_worth(value, shift.min(MOST_SHIFT)).is_some()
+        Shift::at_most(shift).half_worth(value).is_some()
     }
 
     // How many places the bytes have.
@@ -58,48 +57,55 @@ impl Packed {
     }
 
     // The half that a write of the value puts at the place, or why the write is refused.
-    fn half_for(&self, place: usize, value: i16) -> Result<u8, StoreFault>
-        ensures answer { MatchResult result (λ _. packed_answer (vec_len self.now.bytes) self.now.shift place value ≡ Ok tt) (λ e. packed_answer (vec_len self.now.bytes) self.now.shift place value ≡ Err e) }
-        ensures half { IfOk result (λ h. (place / 2 < vec_len self.now.bytes) × (h < 16) × (scaled self.now.shift (signed_half h) ≡ value)) }
+    fn half_for(&self, place: usize, value: i16) -> Result<Half, StoreFault>
+        ensures answer { MatchResult result
+            (λ _. packed_answer (vec_len self.now.bytes) self.now.shift.bits place value ≡ Ok tt)
+            (λ e. packed_answer (vec_len self.now.bytes) self.now.shift.bits place value ≡ Err e) }
+        ensures inside { OnOk result (place / 2 < vec_len self.now.bytes) }
+        ensures worth { IfOk result (λ h. scaled self.now.shift.bits (signed_half h.bits) ≡ value) }
     {
         if place >= self.places() {
             return Err(StoreFault::Place);
         }
-        half_worth(value, self.shift).ok_or(StoreFault::Value)
+        self.shift.half_worth(value).ok_or(StoreFault::Value)
     }
 
     // Puts a half at the place.
-    fn put(&mut self, place: usize, half: u8)
-        requires inside { place / 2 < vec_len self.old.bytes }
-        requires half { half < 16 }
-        ensures bytes { self.new.bytes.items ≡ slice_set self.old.bytes.items (place / 2) (with_half (slice_index self.old.bytes.items (place / 2)) place half) }
+    fn put(&mut self, place: usize, half: Half)
+        requires { place / 2 < vec_len self.old.bytes }
+        ensures bytes { self.new.bytes.items
+            ≡ slice_set self.old.bytes.items (place / 2)
+            (with_half (slice_index self.old.bytes.items (place / 2)) place half.bits) }
         ensures shift { self.new.shift ≡ self.old.shift }
     {
         let byte = self.bytes[place / 2];
-        self.bytes[place / 2] = with_half(byte, place, half);
+        self.bytes[place / 2] = half.put_into(byte, place);
     }
 }
 
 impl Store for Packed {
-    ghost meaning = { λ s. packed_meaning s.shift s.bytes.items };
+    ghost meaning = { λ s. packed_meaning s.shift.bits s.bytes.items };
 
     ghost lawful = { λ s.
         let bytes = s.bytes.items in
-        let long = packed_length s.shift bytes in
+        let long = packed_length s.shift.bits bytes in
         record {
           few = omega arith;
-          weights = packed_weights s.shift s.shifted bytes;
-          outside = λ p v w h. answer_outside _ s.shift p v (omega arith);
-          inside = λ p v w h. answer_inside _ s.shift p v (omega arith);
+          weights = packed_weights s.shift.bits s.shift.small bytes;
+          outside = λ p v w h. answer_outside _ s.shift.bits p v (omega arith);
+          inside = λ p v w h. answer_inside _ s.shift.bits p v (omega arith);
         } };
 
+    #[tactic(auto, using(crate::specs::HalvesLemmas::packed_length))]
     fn size(&self) -> usize {
         self.places()
     }
 
     fn read(&self, place: usize) -> Option<i16> {
-        let byte = self.bytes.get(place / 2)?;
-        Some(worth(half_of(*byte, place), self.shift))
+        self.bytes
+            .get(place / 2)
+            .copied()
+            .map(|byte| self.shift.worth(Half::of(byte, place)))
     }
 
     fn holds(&self, place: usize, value: i16) -> Result<(), StoreFault> {
@@ -108,8 +114,12 @@ impl Store for Packed {
     }
 
     fn write(&mut self, place: usize, value: i16) -> Result<(), StoreFault>
-        ensures written { Written (packed_meaning self.old.shift self.old.bytes.items) place value result (packed_meaning self.new.shift self.new.bytes.items) }
-        ensures half { HalfWritten self.old.shift self.old.bytes.items place value result self.new.bytes.items }
+        ensures written { Written
+            (packed_meaning self.old.shift.bits self.old.bytes.items)
+            place value result
+            (packed_meaning self.new.shift.bits self.new.bytes.items) }
+        ensures half { HalfWritten self.old.shift.bits self.old.bytes.items
+            place value result self.new.bytes.items }
         ensures shift { self.new.shift ≡ self.old.shift }
         ensures untouched { Untouched result self.old self.new }
     {

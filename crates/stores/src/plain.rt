@@ -1,41 +1,32 @@
-ghost use Rattle.std.specs.Prelude.{◌≡◌, ℕ, ◌<◌, ◌≤◌, take, pos, vec_len};
-ghost use Rattle.stores.specs.Plain.{AllWeights, plain_meaning};
+ghost use Rattle.std.specs.Prelude.{◌≡◌, ℕ, ◌<◌, ◌≤◌, All, take, vec_len};
+ghost use Rattle.stores.specs.Plain.{plain_meaning};
 ghost use Rattle.stores.specs.Stores.{Untouched, Written, most_places};
 ghost use Rattle.std.proofs.Common.{rules};
-ghost use Rattle.std.proofs.lemmas.List.Elements.{All-from_get_or};
 ghost use Rattle.rounding.specs.Numbers.{Weight};
 
 use crate::fault::StoreFault;
 use crate::store::{MOST_PLACES, Store};
 
-// Weights as words of 16 bits.
-#[derive(Drop)]
+/// Weights as words of 16 bits.
+#[derive(Debug, Drop)]
 pub struct Plain {
     words: Vec<i16>,
     ghost few: { vec_len words ≤ most_places },
-    ghost weights: { AllWeights words.items },
-}
-
-// Goes over the words once: each has 16 bits, so it is a weight.
-fn look_over(words: &[i16])
-    ensures { AllWeights words.now }
-{
-    for word in words {
-        let _weight = *word;
-    }
+    ghost weights: { All Weight words.items },
 }
 
 impl Plain {
-    // A store of these words, without those past the most places.
+    /// A store of these words, without those past the most places.
     pub fn new(mut words: Vec<i16>) -> Plain
         ensures { result.words.items ≡ take most_places words.items }
     {
         words.truncate(MOST_PLACES);
-        look_over(words.as_slice());
+        // Each word has 16 bits, so it is a weight.
+        words.iter().for_each(|&_weight| {});
         Plain { words }
     }
 
-    // The words, as they are now.
+    /// The words, as they are now.
     pub fn into_words(self) -> Vec<i16>
         ensures { result ≡ self.words }
     {
@@ -50,7 +41,7 @@ impl Store for Plain {
     ghost lawful = { λ s.
         record {
           few = Prim.search rules;
-          weights = All-from_get_or Weight s.words.items (pos 0) s.weights;
+          weights = s.weights;
           outside = λ p v w h. Prim.search rules;
           inside = λ p v w h e. Prim.search rules;
         } };
@@ -72,7 +63,10 @@ impl Store for Plain {
     }
 
     fn write(&mut self, place: usize, value: i16) -> Result<(), StoreFault>
-        ensures written { Written (plain_meaning self.old.words.items) place value result (plain_meaning self.new.words.items) }
+        ensures written { Written
+            (plain_meaning self.old.words.items)
+            place value result
+            (plain_meaning self.new.words.items) }
         ensures untouched { Untouched result self.old self.new }
     {
         if place >= self.words.len() {

@@ -3,28 +3,29 @@ ghost use Rattle.stores.specs.Stores.{Meaning, StoreLaws, Written, read_at};
 
 use crate::fault::StoreFault;
 
-// The most places that a store has.
+/// The most places that a store has.
 pub const MOST_PLACES: usize = 32_768;
 
-// A store of weights, each at a place.
-//
-// `meaning` says what the store shows and which writes it accepts now. A store may keep more than that to itself.
+/// A store of weights, each at a place.
+///
+/// `meaning` says what the store shows and which writes it accepts now. A store may keep more than
+/// that to itself.
 pub trait Store {
     ghost meaning: { Self → Meaning };
 
-    // How many places there are.
+    /// How many places there are.
     fn size(&self) -> usize
         ensures { result ≡ length (meaning self.now).entries };
 
-    // The entry at a place, or none from the size on.
+    /// The entry at a place, or none from the size on.
     fn read(&self, place: usize) -> Option<i16>
         ensures { result ≡ read_at (meaning self.now).entries place };
 
-    // Whether the store would accept the value at the place, or why not.
+    /// Whether the store would accept the value at the place, or why not.
     fn holds(&self, place: usize, value: i16) -> Result<(), StoreFault>
         ensures { result ≡ (meaning self.now).holds place value };
 
-    // Sets the entry at the place, or leaves everything as it was and says why.
+    /// Sets the entry at the place, or leaves everything as it was and says why.
     fn write(&mut self, place: usize, value: i16) -> Result<(), StoreFault>
         ensures { Written (meaning self.old) place value result (meaning self.new) };
 
@@ -37,7 +38,8 @@ mod tests {
     use crate::plain::Plain;
     use std::test::Fail;
 
-    // A store that counts the writes that the one below refuses. The count is no part of its meaning.
+    // A store that counts the writes that the one below refuses. The count is no part of its
+    // meaning.
     #[derive(Drop)]
     struct Counting<S: Store> {
         below: S,
@@ -45,9 +47,9 @@ mod tests {
     }
 
     impl<S: Store> Store for Counting<S> {
-        ghost meaning = { λ c. S.Store.meaning c.below };
+        ghost meaning = { λ c. S.meaning c.below };
 
-        ghost lawful = { λ s. S.Store.lawful s.below };
+        ghost lawful = { λ s. S.lawful s.below };
 
         fn size(&self) -> usize {
             self.below.size()

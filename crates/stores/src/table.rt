@@ -1,4 +1,4 @@
-ghost use Rattle.std.specs.Prelude.{◌≡◌, ℕ, ◌<◌, true, false, length, replicate, ℤ, is_some, Some, None, MatchOption, ◌≢◌, slice_index_or};
+ghost use Rattle.std.specs.Prelude.{All, ◌≡◌, ℕ, ◌<◌, true, false, length, replicate, ℤ, is_some, Some, None, MatchOption, ◌≢◌, slice_index_or};
 ghost use Rattle.rounding.specs.Numbers.{Weight};
 ghost use Rattle.stores.specs.Overlay.{Changed, lookup, room, table_size};
 ghost use Rattle.stores.specs.Tables.{Apart, Put, Seat, TableWeights, place_of, slot_with};
@@ -9,46 +9,23 @@ use crate::patch::Patch;
 // How many places a table has room for.
 const SLOTS: usize = 32;
 
-// The table of an overlay: up to 32 places, each with a value.
-#[derive(Drop)]
+/// The table of an overlay: up to 32 places, each with a value.
+#[derive(Debug, Drop)]
 pub struct Table {
     slots: [Option<Patch>; SLOTS],
-    ghost all_slots: { length slots ≡ table_size },
     ghost apart: { Apart slots },
     ghost weights: { TableWeights slots },
 }
 
-// The place that has taken a slot, if any has.
-fn place_of(slot: Option<Patch>) -> Option<usize>
-    ensures { result ≡ place_of slot }
-{
-    match slot {
-        Some(patch) => Some(patch.place),
-        None => None,
-    }
-}
-
-// A slot that keeps the value for the place, or a free one where there is none.
-fn slot_with(place: usize, value: Option<i16>) -> Option<Patch>
-    ensures is { result ≡ slot_with place value }
-    ensures weight { (v : ℤ) → value ≡ Some v → Weight v }
-{
-    match value {
-        Some(value) => Some(Patch { place, value }),
-        None => None,
-    }
-}
-
 // The first slot that the place has taken or, for no place, the first free one.
 fn find(slots: &[Option<Patch>], place: Option<usize>) -> Option<usize>
-    ensures { MatchOption result ((k : ℕ) → k < length slots.now → place_of (slice_index_or slots.now k None) ≢ place) (λ i. (i < length slots.now) × (place_of (slice_index_or slots.now i None) ≡ place)) }
+    ensures { MatchOption result
+        (All (λ s. place_of s ≢ place) slots.now)
+        (λ i. (i < length slots.now) × (place_of (slice_index_or slots.now i None) ≡ place)) }
 {
-    for (i, slot) in slots.iter().enumerate() {
-        if place_of(*slot) == place {
-            return Some(i);
-        }
-    }
-    None
+    slots
+        .iter()
+        .position(|slot| slot.map(|patch| patch.place) == place)
 }
 
 impl Table {
@@ -62,20 +39,23 @@ impl Table {
     }
 
     // The slot that a place has taken, if any.
+    #[tactic(auto, using(crate::proofs::Tables::own_slot))]
     fn own_slot(&self, place: usize) -> Option<usize>
-        ensures { MatchOption result (lookup place self.now.slots ≡ None) (λ i. Seat place self.now.slots i × (place_of (slice_index_or self.now.slots i None) ≡ Some place) × (is_some (lookup place self.now.slots) ≡ true)) }
+        ensures { MatchOption result
+            (lookup place self.now.slots ≡ None)
+            (λ i. Seat place self.now.slots i
+            × (place_of (slice_index_or self.now.slots i None) ≡ Some place)) }
     {
         find(&self.slots, Some(place))
     }
 
     // The slot for a value at the place: its own, or a free one.
     fn seat(&self, place: usize) -> Option<usize>
-        ensures { MatchOption result (room place self.now.slots ≡ false) (λ i. (room place self.now.slots ≡ true) × Seat place self.now.slots i) }
+        ensures { MatchOption result
+            (room place self.now.slots ≡ false)
+            (λ i. (room place self.now.slots ≡ true) × Seat place self.now.slots i) }
     {
-        match self.own_slot(place) {
-            Some(i) => Some(i),
-            None => find(&self.slots, None),
-        }
+        self.own_slot(place).or_else(|| find(&self.slots, None))
     }
 
     // Has the slot keep the value for the place, or frees it where there is none.
@@ -83,15 +63,15 @@ impl Table {
         requires { Seat place self.old.slots slot }
         ensures { Changed place value self.old.slots self.new.slots }
     {
-        self.slots[slot] = slot_with(place, value);
+        self.slots[slot] = value.map(|value| Patch { place, value });
     }
 
     // The value that the table has for a place.
     pub(crate) fn get(&self, place: usize) -> Option<i16>
         ensures { result ≡ lookup place self.now.slots }
     {
-        let patch = self.slots[self.own_slot(place)?]?;
-        Some(patch.value)
+        let slot = self.own_slot(place)?;
+        self.slots[slot].map(|patch| patch.value)
     }
 
     // Whether the table can take a value for the place.

@@ -26,7 +26,7 @@ abbrev pub of_plain : Plain → Meaning
 of_plain s = plain_meaning (vec_items s.words)
 
 abbrev pub of_packed : Packed → Meaning
-of_packed s = packed_meaning s.shift (vec_items s.bytes)
+of_packed s = packed_meaning s.shift.bits (vec_items s.bytes)
 
 -- what each of the five means
 abbrev pub meanings : Trial → Five Meaning

@@ -11,7 +11,7 @@ pub enum Action {
 }
 
 /// What the store answered.
-#[derive(Clone, Copy, Debug, PartialEq)]
+#[derive(Clone, Copy, Debug, PartialEq, Eq)]
 pub enum Outcome {
     Entry(Option<i16>),
     Answer(Result<(), StoreFault>),

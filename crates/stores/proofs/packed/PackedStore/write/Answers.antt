@@ -1,25 +1,20 @@
-use Rattle.std.proofs.Common.{◌≡◌, ◌/◌, ◌<◌, length, get_or, set, vec_items, ap, ◌∙◌, ap₂, arith, w16, rules}
+use Rattle.std.proofs.Common.{vec_items, ◌∙◌, ap, arith, w16, rules}
 use Rattle.std.proofs.lemmas.Int.{to_z-of_z}
-use Rattle.stores.specs.Halves.{with_half}
-use Rattle.stores.specs.Packed.{halves, packed_entries}
-use Rattle.stores.specs.HalvesLemmas.{set_halves, set_packed}
+use Rattle.stores.specs.Packed.{packed_entries}
+use Rattle.stores.specs.HalvesLemmas.{halves_written, packed_written}
 use Rattle.stores.proofs.packed.PackedStore.write.Goals as goal
 
-pub returns : goal.returns
-returns c =
-    let bytes = vec_items c.args.self.now.bytes in
-    let shift = c.args.self.now.shift in
+pub returns-clause-written : goal.returns-clause-written
+returns-clause-written c =
     let half = c.in_ok-half.half in
-    let told = c.in_ok-half.ensures in
-    let inside : c.args.place / 2 < length bytes = omega arith in
-    let worth = told.half.2 ∙ to_z-of_z w16 c.args.value c.ranges.value in
-    let now : vec_items c.put.new.self.bytes ≡ set bytes (c.args.place / 2) (with_half (get_or bytes (c.args.place / 2) 0) c.args.place half) = c.put.ensures.bytes in
-    record {
-      written = (
-        search rules,
-        ap₂ packed_entries c.put.ensures.shift now ∙ set_packed shift bytes c.args.place half inside told.half.1 ∙ ap (set (packed_entries shift bytes) c.args.place) worth,
-      );
-      half = (half, worth, ap halves now ∙ set_halves bytes c.args.place half inside told.half.1);
-      shift = c.put.ensures.shift;
-      untouched = tt;
-    }
+    let worth = c.in_ok-half.ensures.worth ∙ to_z-of_z w16 c.args.value c.ranges.value in (
+      search rules,
+      ap (λ s. packed_entries s.bits (vec_items c.put.new.self.bytes)) c.put.ensures.shift
+          ∙ packed_written c.args.self.now.shift.bits (vec_items c.args.self.now.bytes) (vec_items c.put.new.self.bytes) c.args.place half.bits (omega (arith, c.in_ok-half.ensures.inside)) half.four_bits c.put.ensures.bytes c.args.value worth,
+    )
+
+pub returns-clause-half : goal.returns-clause-half
+returns-clause-half c =
+    let half = c.in_ok-half.half in
+    let worth = c.in_ok-half.ensures.worth ∙ to_z-of_z w16 c.args.value c.ranges.value in
+    (half.bits, worth, halves_written c.args.self.now.shift.bits (vec_items c.args.self.now.bytes) (vec_items c.put.new.self.bytes) c.args.place half.bits (omega (arith, c.in_ok-half.ensures.inside)) half.four_bits c.put.ensures.bytes)

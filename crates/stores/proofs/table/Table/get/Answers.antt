@@ -1,12 +1,11 @@
-use Rattle.std.proofs.Common.{Some, sym, ap, ◌∙◌, w16, SFits, rules}
-use Rattle.std.proofs.lemmas.Int.{to_z-of_z}
+use Rattle.std.proofs.Common.{◌≡◌, get_or, sym, ◌∙◌, None, rules, tests}
+use Rattle.std.specs.Option.{option_map}
 use Rattle.stores.proofs.Tables.{slot_value}
 use Rattle.stores.proofs.table.Table.get.Goals as goal
 
 pub returns : goal.returns
 returns c =
-    let x = c.in_ok-patch.patch in
-    let f : SFits w16 x.value = search rules in
-    let told = c.in_ok-own_slot.ensures in
-    ap Some (to_z-of_z w16 x.value f)
-    ∙ sym (slot_value c.args.place c.in_ok-own_slot.field-0 c.args.self.now.slots x told.0 c.in_ok-patch.was told.1)
+    let slots = c.args.self.now.slots in
+    let told = c.in_ok-slot.ensures in
+    let value : c.map.result ≡ option_map (λ x. x.value) (get_or slots c.in_ok-slot.slot None) = search (rules, tests) in
+    value ∙ sym (slot_value c.args.place c.in_ok-slot.slot slots told.0 told.1)

@@ -1,6 +1,6 @@
-use Rattle.stores.proofs.Tables.{free_slot}
+use Rattle.std.proofs.Common.{rules, tests}
+use Rattle.stores.proofs.Tables.{seat_for}
 use Rattle.stores.proofs.table.Table.seat.Goals as goal
 
-pub returns-in-None : goal.returns-in-None
-returns-in-None c =
-    free_slot c.args.place c.args.self.now.slots c.args.self.now.all_slots c.in-None.ensures c.find.result c.find.ensures
+pub returns : goal.returns
+returns c = seat_for c.args.place c.args.self.now.slots (search rules) c.own_slot.result c.or_else.result c.own_slot.ensures c.or_else.ensures (λ k. search (rules, tests))
