@@ -1,16 +1,18 @@
 -- The parts of a row that is written keep their limits.
 -- Assumes nothing.
-use Rattle.std.proofs.Common.{◌≡◌, ℕ, ◌+◌, ◌-◌, ◌<◌, ◌≤◌, List, map, length, get_or, take, drop, drop-drop, refl, ℤ, pos, ◌+ℤ◌, ◌-ℤ◌, neg_ℤ, subst, arith, length-drop, length-take, get_or-drop, get_or-take}
+use Rattle.std.proofs.Common.{◌≡◌, ℕ, ◌+◌, ◌-◌, ◌<◌, ◌≤◌, List, map, length, get_or, take, drop, drop-drop, refl, le_refl, ◌∙◌, zero-add, Option, Some, None, MatchOption, ℤ, pos, ◌+ℤ◌, ◌-ℤ◌, neg_ℤ, subst, arith, length-drop, length-take, get_or-drop, get_or-take}
 use borrow.Author.Differences.{ints}
 use Rattle.std.proofs.lemmas.Bool.Decides.{nat_tests}
 use Rattle.std.proofs.lemmas.List.{take_rest}
+use Rattle.std.specs.List.{AllWithin, HoldsAt, enumerate_from}
+use Rattle.std.proofs.lemmas.List.FromFn.{length-enumerate_from, get_or-enumerate_from}
 use Rattle.rounding.specs.Intervals.{from_to}
 use Rattle.rounding.specs.Numbers.{Between, InRange, Weight, largest}
 use Rattle.std.proofs.lemmas.List.Elements.{All-from_get_or, All-map, All-weaker}
 use Rattle.bounds.specs.Kinds.{ActivationEnds}
 use Rattle.rounding.specs.declared.interval.Interval.{Interval}
 use Rattle.rows.specs.Sums.{spread, RowLimits}
-use Rattle.rows.specs.Numbers.{columns_of, limits, Written, FitsAt, bits_of, weight_distance_of, value_distance_of, bias_of, weights_of, values_of}
+use Rattle.rows.specs.Numbers.{AllFit, FirstOutside, columns_of, limits, Written, FitsAt, bits_of, weight_distance_of, value_distance_of, bias_of, weights_of, values_of}
 
 weight_limits : (n i : ℕ) → i < n → limits n (4 + i) ≡ from_to (neg_ℤ (pos 32768)) (pos 32767)
 weight_limits n i h = grind (arith, nat_tests)
@@ -80,3 +82,22 @@ module _ (ns : List ℤ) (written : Written ns) where
 pub halves : (ns : List ℤ) (n : ℕ) → n ≡ columns_of (length ns)
     → (take n (take (length ns - 4) (drop 4 ns)) ≡ weights_of ns) × (drop n (take (length ns - 4) (drop 4 ns)) ≡ values_of ns)
 halves ns n is = rw (take_rest ns 4, is) (refl, drop-drop (columns_of (length ns)) 4 ns)
+
+-- ---- the first number outside its limits, among the numbers with their places
+-- a number may stand at the place
+abbrev pub Allowed : List ℤ → ℕ × ℤ → Type 0
+Allowed ns p = Between (limits (columns_of (length ns)) p.0).low (limits (columns_of (length ns)) p.0).high p.1
+
+placed : (ns : List ℤ) (i : ℕ) → i < length ns → get_or (enumerate_from 0 ns) i (0, pos 0) ≡ (i, get_or ns i (pos 0))
+placed ns i h = get_or-enumerate_from 0 ns i (0, pos 0) h ∙ (rw zero-add refl)
+
+fits : (ns : List ℤ) (n : ℕ) → n ≤ length ns → AllWithin (Allowed ns) (enumerate_from 0 ns) 0 n → (i : ℕ) → i < n → FitsAt ns i
+fits ns n h all i l = subst (Allowed ns) (placed ns i (omega arith)) (all i (0, pos 0) (omega arith) l)
+
+pub first_is : (ns : List ℤ) (r : Option ℕ)
+    → MatchOption r (AllWithin (Allowed ns) (enumerate_from 0 ns) 0 (length (enumerate_from 0 ns))) (λ i. (i < length (enumerate_from 0 ns)) × HoldsAt (λ p. Allowed ns p → ⊥) (enumerate_from 0 ns) i × AllWithin (Allowed ns) (enumerate_from 0 ns) 0 i)
+    → MatchOption r (AllFit ns) (FirstOutside ns)
+first_is ns None h = fits ns (length ns) (le_refl (length ns)) (rw (length-enumerate_from 0 ns) at h)
+first_is ns (Some i) h =
+    let l : i < length ns = rw (length-enumerate_from 0 ns) at h.0 in
+    (l, λ f. h.1 (0, pos 0) (rw (placed ns i l) f), fits ns i (omega arith) h.2)

@@ -55,12 +55,10 @@ impl<'a> Listed<'a> {
     fn first_outside(&self) -> Option<usize>
         ensures { MatchOption result (AllFit self.now.numbers.now) (FirstOutside self.now.numbers.now) }
     {
-        for (place, &number) in self.numbers.iter().enumerate() {
-            if !self.limits_at(place).contains(number) {
-                return Some(place);
-            }
-        }
-        None
+        self.numbers
+            .iter()
+            .enumerate()
+            .position(|(place, &number)| !self.limits_at(place).contains(number))
     }
 
     // The row that is written in the numbers.
