@@ -7,14 +7,15 @@ use Rattle.rounding.specs.Numbers.{Sized}
 use Rattle.rounding.proofs.Machine.{sized_more}
 use Rattle.bounds.specs.Kinds.{weight_reach, activation_reach, WeightEnds, ActivationEnds}
 
-sized_between : (n : ℕ) (z : ℤ) → neg_ℤ (pos n) ≤ℤ z → z ≤ℤ pos n → Sized n z
-sized_between n z h k = record { size = omega (arith, ints) }
+-- ends in order, within n of 0
+ends_sized : (n : ℕ) (a b : ℤ) → neg_ℤ (pos n) ≤ℤ a → a ≤ℤ b → b ≤ℤ pos n → Sized n a × Sized n b
+ends_sized n a b h k l = (record { size = omega (arith, ints) }, record { size = omega (arith, ints) })
 
 pub weight_sized : (a b : ℤ) → WeightEnds a b → Sized weight_reach a × Sized weight_reach b
-weight_sized a b h = (sized_between weight_reach a (omega (arith, ints)) (omega (arith, ints)), sized_between weight_reach b (omega (arith, ints)) (omega (arith, ints)))
+weight_sized a b h = ends_sized weight_reach a b h.0 h.1 h.2
 
 pub activation_sized : (a b : ℤ) → ActivationEnds a b → Sized activation_reach a × Sized activation_reach b
-activation_sized a b h = (sized_between activation_reach a (omega (arith, ints)) (omega (arith, ints)), sized_between activation_reach b (omega (arith, ints)) (omega (arith, ints)))
+activation_sized a b h = ends_sized activation_reach a b h.0 h.1 h.2
 
 -- a weight's ends are ones that an activation can have
 pub weight_is_activation : (a b : ℤ) → WeightEnds a b → ActivationEnds a b

@@ -1,4 +1,5 @@
-ghost use Rattle.std.specs.Prelude.{◌≡◌, ◌^◌, ◌+ℤ◌, ◌-ℤ◌, ◌↔◌, IsTrue};
+ghost use Rattle.std.specs.Prelude.{◌≡◌, ◌^◌, ◌+ℤ◌, ◌-ℤ◌, ◌↔◌, ◌++◌, IsTrue, Some, codes};
+ghost use Rattle.std.specs.Fmt.{signed_decimal};
 ghost use Rattle.rounding.specs.Numbers.{Between, Sized};
 ghost use Rattle.rounding.specs.Intervals.{Within, sum_of};
 
@@ -35,6 +36,8 @@ impl Interval {
 }
 
 impl fmt::Display for Interval {
+    ghost output = { λ i. Some (signed_decimal i.low ++ codes ".." ++ signed_decimal i.high) };
+
     fn fmt<W: fmt::Write>(&self, f: &mut fmt::Formatter<W>) -> fmt::Result {
         let Interval { low, high } = self;
         write!(f, "{low}..{high}")

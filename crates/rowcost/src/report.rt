@@ -1,4 +1,5 @@
-ghost use Rattle.std.specs.Prelude.{◌≡◌, ◌<◌, length, IfOk, MatchResult, OnOk};
+ghost use Rattle.std.specs.Prelude.{◌≡◌, ◌<◌, ◌++◌, length, codes, IfOk, MatchResult, OnOk, Some};
+ghost use Rattle.std.specs.Fmt.{signed_decimal};
 ghost use Rattle.rowcost.specs.Distances.{both_bounds, with_distances};
 ghost use Rattle.rows.specs.Numbers.{Refused, Written};
 
@@ -19,6 +20,9 @@ struct Distances {
 }
 
 impl fmt::Display for Distances {
+    ghost output = { λ d. Some (codes "weights within " ++ signed_decimal d.weights
+        ++ codes ", values within " ++ signed_decimal d.values) };
+
     fn fmt<W: fmt::Write>(&self, f: &mut fmt::Formatter<W>) -> fmt::Result {
         let Distances { weights, values } = self;
         write!(f, "weights within {weights}, values within {values}")
@@ -33,6 +37,9 @@ struct BothKinds {
 }
 
 impl fmt::Display for BothKinds {
+    ghost output = { λ b. Some (codes "ends " ++ signed_decimal b.ends.low ++ codes ".." ++ signed_decimal b.ends.high
+        ++ codes ", centred " ++ signed_decimal b.centred.low ++ codes ".." ++ signed_decimal b.centred.high) };
+
     fn fmt<W: fmt::Write>(&self, f: &mut fmt::Formatter<W>) -> fmt::Result {
         let BothKinds { ends, centred } = self;
         write!(f, "ends {ends}, centred {centred}")

@@ -1,10 +1,11 @@
 -- The five stores of a trial: what each means, what is asked of all of them, and what they answer.
-use Rattle.std.specs.Prelude.{◌≡◌, ℕ, ◌*◌, min, length, take, replicate, pos, None, vec_items}
+use Rattle.std.specs.Prelude.{◌≡◌, ℕ, ◌*◌, ◌++◌, min, List, length, take, replicate, codes, pos, Option, Some, None, Ok, Err, vec_items}
+use Rattle.std.specs.Fmt.{decimal, signed_decimal}
 use Rattle.stores.specs.Differing.{differing}
 use Rattle.stores.specs.Overlay.{over_meaning, table_size}
 use Rattle.stores.specs.Packed.{most_bytes, most_shift, packed_meaning}
 use Rattle.stores.specs.Plain.{plain_meaning}
-use Rattle.stores.specs.Stores.{Answer as Answered, Meaning, Written, most_places, read_at}
+use Rattle.stores.specs.Stores.{Answer as Answered, Meaning, Written, most_places, read_at, reason}
 use Rattle.stores.specs.declared.packed.Packed.{Packed}
 use Rattle.stores.specs.declared.plain.Plain.{Plain}
 use Rattle.storetrial.specs.declared.action.Action.{Action}
@@ -20,6 +21,13 @@ abbrev pub Acted : Meaning → Action → Outcome → Meaning → Type 0
 Acted before (Read p) o after = (o ≡ Entry (read_at before.entries p)) × (after ≡ before)
 Acted before (Holds p v) o after = (o ≡ Answer (before.holds p v)) × (after ≡ before)
 Acted before (Write p v) o after = (a : Answered) × (o ≡ Answer a) × Written before p v a after
+
+-- what is printed of an outcome
+abbrev pub printed : Outcome → Option (List ℕ)
+printed (Entry (Some n)) = Some (signed_decimal n)
+printed (Entry None) = Some (codes "none")
+printed (Answer (Ok u)) = Some (codes "ok")
+printed (Answer (Err e)) = Some (codes "no " ++ decimal (reason e))
 
 -- what a plain store and a packed store mean
 abbrev pub of_plain : Plain → Meaning

@@ -18,7 +18,7 @@ pub enum Outcome {
 }
 
 impl Action {
-    ghost use Rattle.storetrial.specs.Trials.{Acted};
+    ghost use Rattle.storetrial.specs.Trials.{Acted, printed};
 
     /// Asks a store, of whatever kind.
     pub(crate) fn act<S: Store>(self, store: &mut S) -> Outcome
@@ -33,6 +33,10 @@ impl Action {
 }
 
 impl fmt::Display for Outcome {
+    ghost use Rattle.storetrial.specs.Trials.{printed};
+
+    ghost output = { printed };
+
     fn fmt<W: fmt::Write>(&self, f: &mut fmt::Formatter<W>) -> fmt::Result {
         match self {
             Outcome::Entry(Some(entry)) => write!(f, "{entry}"),

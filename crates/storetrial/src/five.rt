@@ -1,3 +1,6 @@
+ghost use Rattle.std.specs.Prelude.{Some, codes};
+ghost use Rattle.std.specs.Fmt.{◌++?◌};
+
 use std::fmt;
 
 /// One thing for each of the five stores.
@@ -11,6 +14,10 @@ pub struct Five<T> {
 }
 
 impl<T: fmt::Display> fmt::Display for Five<T> {
+    ghost output = { λ five. T.output five.plain ++? Some (codes " | ") ++? T.output five.packed
+        ++? Some (codes " | ") ++? T.output five.over_plain ++? Some (codes " | ")
+        ++? T.output five.over_packed ++? Some (codes " | ") ++? T.output five.twice };
+
     fn fmt<W: fmt::Write>(&self, f: &mut fmt::Formatter<W>) -> fmt::Result {
         let Five {
             plain,
