@@ -1,6 +1,6 @@
 use Rattle.std.proofs.Common.{◌≡◌, ℕ, ◌*◌, ◌^◌, ◌<◌, ℤ, ◌*ℤ◌, ap, ◌∙◌, lit<, lit≤, w64, to_z, of_z}
 use Rattle.rounding.specs.Numbers.{Sized}
-use Rattle.rounding.proofs.Machine.{Is, plain, product, fits, back, sized_more}
+use Rattle.rounding.proofs.Machine.{Is, plain, product, back, sized_more}
 use Rattle.bounds.specs.Centred.{abs}
 use Rattle.bounds.specs.CentredLaws.{abs_sized}
 use Rattle.bounds.proofs.centred.Terms.of.Goals as goal
@@ -14,18 +14,6 @@ sizes : {m n : ℕ} {x y c : ℤ} → x ≡ abs (to_z w64 (of_z w64 c)) → Size
     → Is (m * n) (to_z w64 (of_z w64 x) *ℤ to_z w64 (of_z w64 y)) (abs c *ℤ y)
 sizes e h k l r =
     product (back w64 (record { same = e ∙ ap abs (back w64 (plain h) l).same; sized = abs_sized h }) l) (back w64 (plain k) r)
-
-pub overflow_mul-result : goal.overflow_mul-result
-overflow_mul-result c = fits w64 (parts c.requires.weight.0 c.requires.activation.0 (lit< tt) (lit< tt)) (lit< tt)
-
-pub overflow_mul-result-2 : goal.overflow_mul-result-2
-overflow_mul-result-2 c = fits w64 (sizes c.abs.ensures.value c.requires.weight.0 c.requires.activation.1 (lit< tt) (lit< tt)) (lit< tt)
-
-pub overflow_mul-result-3 : goal.overflow_mul-result-3
-overflow_mul-result-3 c = fits w64 (sizes c.abs-2.ensures.value c.requires.activation.0 c.requires.weight.1 (lit< tt) (lit< tt)) (lit< tt)
-
-pub overflow_mul-result-4 : goal.overflow_mul-result-4
-overflow_mul-result-4 c = fits w64 (parts c.requires.weight.1 c.requires.activation.1 (lit< tt) (lit< tt)) (lit< tt)
 
 pub returns : goal.returns
 returns c =

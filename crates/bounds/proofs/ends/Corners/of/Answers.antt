@@ -1,6 +1,6 @@
 use Rattle.std.proofs.Common.{ℤ, ◌*ℤ◌, lit<, lit≤, w64, to_z, of_z}
 use Rattle.rounding.specs.Numbers.{Sized}
-use Rattle.rounding.proofs.Machine.{Is, plain, product, fits, back, sized_more}
+use Rattle.rounding.proofs.Machine.{Is, plain, product, back, sized_more}
 use Rattle.bounds.specs.Kinds.{weight_reach, activation_reach}
 use Rattle.bounds.specs.Sizes.{product_size}
 use Rattle.bounds.proofs.ends.Corners.of.Goals as goal
@@ -9,33 +9,14 @@ use Rattle.bounds.proofs.ends.Corners.of.Goals as goal
 of_ends : {x y : ℤ} → Sized weight_reach x → Sized activation_reach y → Is product_size (to_z w64 (of_z w64 x) *ℤ to_z w64 (of_z w64 y)) (x *ℤ y)
 of_ends h k = product (back w64 (plain h) (lit< tt)) (back w64 (plain k) (lit< tt))
 
-pub overflow_mul-result : goal.overflow_mul-result
-overflow_mul-result c = fits w64 (of_ends c.requires.weight.0 c.requires.activation.0) (lit< tt)
-
-pub overflow_mul-result-2 : goal.overflow_mul-result-2
-overflow_mul-result-2 c = fits w64 (of_ends c.requires.weight.0 c.requires.activation.1) (lit< tt)
-
-pub overflow_mul-result-3 : goal.overflow_mul-result-3
-overflow_mul-result-3 c = fits w64 (of_ends c.requires.weight.1 c.requires.activation.0) (lit< tt)
-
-pub overflow_mul-result-4 : goal.overflow_mul-result-4
-overflow_mul-result-4 c = fits w64 (of_ends c.requires.weight.1 c.requires.activation.1) (lit< tt)
-
-pub returns : goal.returns
-returns c =
+pub returns-clause-sizes : goal.returns-clause-sizes
+returns-clause-sizes c =
     let a = back w64 (of_ends c.requires.weight.0 c.requires.activation.0) (lit< tt) in
     let b = back w64 (of_ends c.requires.weight.0 c.requires.activation.1) (lit< tt) in
     let d = back w64 (of_ends c.requires.weight.1 c.requires.activation.0) (lit< tt) in
-    let e = back w64 (of_ends c.requires.weight.1 c.requires.activation.1) (lit< tt) in
-    record {
-      low_low = a.same;
-      low_high = b.same;
-      high_low = d.same;
-      high_high = e.same;
-      sizes = (
-        rw a.same (sized_more a.sized (lit≤ tt)),
-        rw b.same (sized_more b.sized (lit≤ tt)),
-        rw d.same (sized_more d.sized (lit≤ tt)),
-        rw e.same (sized_more e.sized (lit≤ tt)),
-      );
-    }
+    let e = back w64 (of_ends c.requires.weight.1 c.requires.activation.1) (lit< tt) in (
+      rw a.same (sized_more a.sized (lit≤ tt)),
+      rw b.same (sized_more b.sized (lit≤ tt)),
+      rw d.same (sized_more d.sized (lit≤ tt)),
+      rw e.same (sized_more e.sized (lit≤ tt)),
+    )
