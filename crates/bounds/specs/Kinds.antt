@@ -2,7 +2,6 @@
 use Rattle.std.specs.Prelude.{◌≡◌, ℕ, ◌+◌, ◌*◌, ◌^◌, ◌<◌, ◌≤◌, ℤ, pos, ◌+ℤ◌, ◌*ℤ◌, neg_ℤ, ◌≤ℤ◌}
 use Rattle.rounding.specs.Numbers.{Over, Sized}
 use Rattle.rounding.specs.Intervals.{rounded_outward}
-use Rattle.rounding.specs.declared.interval.Interval.{Interval}
 
 -- how far from 0 an end of a weight can be: a weight of 16 bits and a distance of at most 32,767
 abbrev pub weight_reach : ℕ
@@ -48,8 +47,8 @@ pub data Running (k : Meanings) : ℕ → k.Sum → Type 0 where
       → Running k (n + 1) (k.adds s (k.makes a b) (k.makes c d))
 
 -- CLOSE: the low and the high of a row with the bias b, in whole units
-abbrev pub closes : (k : Meanings) → k.Sum → ℤ → ℕ → Interval
-closes k s b F = rounded_outward (k.sum_low s) (k.sum_high s) b F
+abbrev pub closes : (k : Meanings) → k.Sum → ℤ → ℕ → ℤ × ℤ
+closes k s b F = let a = rounded_outward (k.sum_low s) (k.sum_high s) b F in (a.low, a.high)
 
 -- the laws of a bound kind
 pub record KindLaws (k : Meanings) : Type 0 where

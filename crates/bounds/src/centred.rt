@@ -140,7 +140,8 @@ impl BoundKind for Centred {
         so_far + Terms::of(weight, activation).joined()
     }
 
-    fn close(whole: Ball, bias: i64, scale: Scale) -> Interval {
-        scale.outward(whole.ends(), bias)
+    fn close(whole: Ball, bias: i64, scale: Scale) -> (i64, i64) {
+        let Interval { low, high } = scale.outward(whole.ends(), bias);
+        (low, high)
     }
 }

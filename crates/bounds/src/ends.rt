@@ -95,7 +95,8 @@ impl BoundKind for Ends {
         so_far + Corners::of(weight, activation).hull()
     }
 
-    fn close(whole: Interval, bias: i64, scale: Scale) -> Interval {
-        scale.outward(whole, bias)
+    fn close(whole: Interval, bias: i64, scale: Scale) -> (i64, i64) {
+        let Interval { low, high } = scale.outward(whole, bias);
+        (low, high)
     }
 }

@@ -41,7 +41,7 @@ pub trait BoundKind {
         ensures { sum result ≡ means.adds (sum so_far) (element weight) (element activation) };
 
     /// The low and the high of the row whose products come to `whole`, in whole units.
-    fn close(whole: Self::Sum, bias: i64, scale: Scale) -> Interval
+    fn close(whole: Self::Sum, bias: i64, scale: Scale) -> (i64, i64)
         requires running { (n : ℕ) × (n ≤ 64) × Running means n (sum whole) }
         requires bias { InRange bias }
         ensures { result ≡ closes means (sum whole) bias scale.bits };

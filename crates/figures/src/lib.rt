@@ -23,7 +23,8 @@ fn product<K: BoundKind>(weight: Interval, activation: Interval) -> Interval
     ensures { result ≡ product_ends K.means weight activation }
 {
     let sum = K::add(K::start(), K::make(weight), K::make(activation));
-    K::close(sum, 0, Scale { bits: 0 })
+    let (low, high) = K::close(sum, 0, Scale { bits: 0 });
+    Interval { low, high }
 }
 
 /// The figures, which hold of the definitions, as the code works them.

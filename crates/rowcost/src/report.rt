@@ -133,7 +133,7 @@ impl<R: Print + AllocGlobal> Report<'_, R> {
             own,
         ];
         for (i, distances) in cases.iter().enumerate() {
-            if !cases[..i].contains(distances) {
+            if cases.iter().position(|case| case == distances) == Some(i) {
                 self.show(numbers, *distances)?;
             }
         }

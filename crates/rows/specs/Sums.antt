@@ -25,7 +25,10 @@ summed k e_w s (w ∷ ws) (a ∷ vs) =
 
 -- the bounds of the row with the bias b: MAKE on each pair of ends, START, one ADD a column and CLOSE
 abbrev pub row_bounds : (k : Meanings) (F e_w : ℕ) → List Interval → List ℤ → ℤ → Interval
-row_bounds k F e_w vs ws b = closes k (summed k e_w k.starts ws vs) b F
+row_bounds k F e_w vs ws b = record {
+  low = (closes k (summed k e_w k.starts ws vs) b F).0;
+  high = (closes k (summed k e_w k.starts ws vs) b F).1;
+}
 
 -- the limits of a row: at most 64 columns, weights of 16 bits, a distance of at most 32,767, and intervals that activations can have
 pub record RowLimits (e_w : ℕ) (vs : List Interval) (ws : List ℤ) : Type 0 where

@@ -10,6 +10,20 @@ use rounding::interval::Interval;
 use rounding::scale::Scale;
 use rounding::{RANGE, WEIGHTS};
 
+// What the first four numbers may be: the fraction bits, the two distances and the bias.
+const HEAD: [Interval; 4] = [
+    Interval { low: 0, high: 16 },
+    Interval {
+        low: 0,
+        high: 32_767,
+    },
+    Interval {
+        low: 0,
+        high: 65_535,
+    },
+    RANGE,
+];
+
 // Numbers of which there are as many as a row has: four, and 1 to 64 weights and as many values.
 #[derive(Clone, Copy)]
 struct Listed<'a> {
@@ -35,20 +49,12 @@ impl<'a> Listed<'a> {
     fn limits_at(&self, place: usize) -> Interval
         ensures { result ≡ limits self.now.columns place }
     {
-        match place {
-            0 => Interval { low: 0, high: 16 },
-            1 => Interval {
-                low: 0,
-                high: 32_767,
-            },
-            2 => Interval {
-                low: 0,
-                high: 65_535,
-            },
-            3 => RANGE,
-            _ if place < 4 + self.columns => WEIGHTS,
-            _ => RANGE,
-        }
+        let rest = if place < 4 + self.columns {
+            WEIGHTS
+        } else {
+            RANGE
+        };
+        HEAD.get(place).copied().unwrap_or(rest)
     }
 
     // The place of the first number outside its limits.

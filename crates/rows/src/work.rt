@@ -48,6 +48,7 @@ impl Row<'_> {
         ensures { result ≡ row_bounds K.means self.now.scale.bits self.now.weight_distance
             (map (spread self.now.value_distance) self.now.values.now) self.now.weights.now self.now.bias }
     {
-        K::close(self.sum::<K>(), self.bias, self.scale)
+        let (low, high) = K::close(self.sum::<K>(), self.bias, self.scale);
+        Interval { low, high }
     }
 }
