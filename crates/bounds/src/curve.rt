@@ -61,12 +61,13 @@ impl CurveNumbers {
     }
 }
 
-/// The curve that has the numbers, where they keep the rules.
+/// The curve that has the numbers, where they keep the rules. Every curve that keeps them keeps the laws of a curve.
 impl TryFrom<CurveNumbers> for Curve {
     type Error = NoCurve;
 
-    ghost try_from_gives = { NamedBy };
+    ghost try_from_gives = { λ numbers result. NamedBy numbers result × FourCurves };
 
+    #[tactic(auto, using(crate::proofs::CurveLaws::four_curves))]
     fn try_from(numbers: CurveNumbers) -> Result<Self, NoCurve> {
         numbers.curve().ok_or(NoCurve { numbers })
     }

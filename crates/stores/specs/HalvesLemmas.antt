@@ -43,7 +43,7 @@ past : {A : Type 0} (n : ℕ) → n < 0 → A
 past n h = let z : ⊥ = omega arith in absurd z
 
 -- the half that a place has, by the byte that has it
-slice_get-halves : (bs : List ℕ) (p : ℕ) → slice_get (halves bs) p ≡ option_map (λ b. half_at b p) (slice_get bs (p / 2))
+pub slice_get-halves : (bs : List ℕ) (p : ℕ) → slice_get (halves bs) p ≡ option_map (λ b. half_at b p) (slice_get bs (p / 2))
 slice_get-halves [] p = refl
 slice_get-halves (b ∷ bs) zero = refl
 slice_get-halves (b ∷ bs) (suc zero) = refl

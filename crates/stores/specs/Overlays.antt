@@ -60,7 +60,7 @@ overlaid_set i ss ts (x ∷ es) (suc k) v d l e h =
     let rest = overlaid_set (suc i) ss ts es k v d (le_of_suc-le-suc l) (rw suc-add (rw add-suc at e)) (λ q m. h q (omega arith)) in cc
 
 -- an entry that is read lies inside
-read_inside : (es : List ℤ) (p : ℕ) (e : ℤ) → read_at es p ≡ Some e → (p < length es) × (slice_index_or es p (pos 0) ≡ e)
+pub read_inside : (es : List ℤ) (p : ℕ) (e : ℤ) → read_at es p ≡ Some e → (p < length es) × (slice_index_or es p (pos 0) ≡ e)
 read_inside es p e r = (slice_get_within es p e r, get_or_from_slice_get es p e (pos 0) r)
 
 patched : (e v : ℤ) → unwrap_or (patch e v) e ≡ v

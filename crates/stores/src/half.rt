@@ -23,7 +23,7 @@ impl Half {
     pub(crate) fn with_number(number: i16) -> Option<Half>
         ensures { MatchOption result
             (¬ Between (neg_ℤ (pos 8)) (pos 7) number)
-            (λ h. signed_half h.bits ≡ number) }
+            (λ h. (signed_half h.bits ≡ number) × Between (neg_ℤ (pos 8)) (pos 7) number) }
     {
         if !(-8..=7).contains(&number) {
             return None;
@@ -34,7 +34,8 @@ impl Half {
 
     // The half's number in two's complement.
     pub(crate) fn number(self) -> i16
-        ensures { result ≡ signed_half self.bits }
+        ensures is { result ≡ signed_half self.bits }
+        ensures four_bits { Between (neg_ℤ (pos 8)) (pos 7) result }
     {
         let n = i16::from(self.bits);
         if self.bits < 8 { n } else { n - 16 }

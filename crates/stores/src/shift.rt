@@ -1,4 +1,5 @@
-ghost use Rattle.std.specs.Prelude.{◌≡◌, ◌^◌, ◌≤◌, min, pos, is_some, IfSome};
+ghost use Rattle.std.specs.Prelude.{◌≡◌, ◌^◌, ◌≤◌, min, pos, neg_ℤ, is_some, IfSome};
+ghost use Rattle.rounding.specs.Numbers.{Between};
 ghost use Rattle.stores.specs.Packed.{most_shift, packable, scaled, signed_half};
 
 use crate::half::Half;
@@ -31,11 +32,19 @@ impl Shift {
         1 << self.bits
     }
 
+    // A half's number times two to the shift.
+    fn times_unit(self, number: i16) -> i16
+        requires { Between (neg_ℤ (pos 8)) (pos 7) number }
+        ensures { result ≡ scaled self.bits number }
+    {
+        self.unit() * number
+    }
+
     // What a half is worth.
     pub(crate) fn worth(self, half: Half) -> i16
         ensures { result ≡ scaled self.bits (signed_half half.bits) }
     {
-        self.unit() * half.number()
+        self.times_unit(half.number())
     }
 
     // The half that is worth a value, if any is.
@@ -43,7 +52,8 @@ impl Shift {
         ensures keeps { is_some result ≡ packable self.bits value }
         ensures worth { IfSome result (λ h. scaled self.bits (signed_half h.bits) ≡ value) }
     {
-        let half = Half::with_number(value >> self.bits)?;
-        (self.worth(half) == value).then_some(half)
+        let number = value >> self.bits;
+        let half = Half::with_number(number)?;
+        (self.times_unit(number) == value).then_some(half)
     }
 }

@@ -10,13 +10,16 @@ use command::Command;
 use std::io;
 use trial::{Opening, Trial};
 
+/// Opens new stores in the place of those that are there, and prints how many places they have.
+fn reopen(rt: &(impl Print + AllocGlobal), trial: &mut Trial, opening: Opening) -> io::Result<()> {
+    *trial = Trial::open(rt.alloc(), opening)?;
+    println!(rt; "{}", trial.sizes())
+}
+
 /// Does what a line asks for, and prints what came of it.
 fn obey(rt: &(impl Print + AllocGlobal), trial: &mut Trial, command: Command) -> io::Result<()> {
     match command {
-        Command::Open(opening) => {
-            *trial = Trial::open(rt.alloc(), opening)?;
-            println!(rt; "{}", trial.sizes())
-        }
+        Command::Open(opening) => reopen(rt, trial, opening),
         Command::Ask(action) => println!(rt; "{}", trial.ask(action)),
         Command::Differ => println!(rt; "{}", trial.differ()),
     }
@@ -26,13 +29,16 @@ fn main(rt: HostRuntime) -> io::Result<()> {
     let mut trial = Trial::open(rt.alloc(), Opening::default())?;
     for line in rt.lines(rt.alloc()) {
         let line = line?;
-        if line.trim_ascii().is_empty() {
+        let text = line.trim_ascii_start();
+        if text.is_empty() {
             continue;
         }
-        print!(rt; "{line} -> ")?;
-        match line.parse::<Command>() {
-            Ok(command) => obey(&rt, &mut trial, command)?,
-            Err(fault) => println!(rt; "{fault}")?,
+        match text.parse::<Command>() {
+            Ok(command) => {
+                print!(rt; "{line} -> ")?;
+                obey(&rt, &mut trial, command)?;
+            }
+            Err(fault) => println!(rt; "{line} -> {fault}")?,
         }
     }
     Ok(())

@@ -46,7 +46,8 @@ fn filled(alloc: Global, opening: Opening) -> Result<Packed, AllocError>
 }
 
 impl Trial {
-    /// New stores.
+    /// New stores. It is inlined, so that the tables are made where they are to stay.
+    #[inline(always)]
     pub(crate) fn open(alloc: Global, opening: Opening) -> Result<Trial, AllocError>
         ensures { IfOk result (λ t. meanings t ≡ opened opening) }
     {
